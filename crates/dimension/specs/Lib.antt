@@ -1,0 +1,4 @@
+pub mod Owed
+pub mod Rows
+pub mod Errors
+pub mod Reach

@@ -1,0 +1,30 @@
+-- Checks that are passed, and checks that refuse.
+use mathlib.Core.Path.{_≡_, refl}
+use mathlib.Core.Bool.{Bool, true, false}
+use Prim.Native.Nat.{ℕ}
+use native.Mathlib.Omega.{arith}
+use Rattle.std.specs.declared.result.Result.{Result}
+use Rattle.std.specs.declared.result.Result.the-variants.{Ok, Err}
+use Rattle.laws.specs.Faults.{Fault, refuse}
+
+-- the test of a check that passed
+pub passed : {A : Type 0} (b : Bool) (f : Fault) (x y : A) → Ok x ≡ refuse b f (Ok y) → b ≡ false
+passed true f x y e = let z : _≡_ {A = ℕ} 0 1 = cc in absurd (omega arith)
+passed false f x y e = refl
+
+-- what it answered
+pub passed-with : {A : Type 0} (b : Bool) (f : Fault) (x y : A) → Ok x ≡ refuse b f (Ok y) → x ≡ y
+passed-with true f x y e = let z : _≡_ {A = ℕ} 0 1 = cc in absurd (omega arith)
+passed-with false f x y e = cc
+
+-- the test of a check that refused, its fault, and that it refuses whatever would have come after
+pub refused-test : {A : Type 0} (b : Bool) (f g : Fault) (y : A) → Err g ≡ refuse b f (Ok y) → b ≡ true
+refused-test true f g y e = refl
+refused-test false f g y e = let z : _≡_ {A = ℕ} 0 1 = cc in absurd (omega arith)
+
+pub refused-with : {A : Type 0} (b : Bool) (f g : Fault) (y : A) → Err g ≡ refuse b f (Ok y) → g ≡ f
+refused-with true f g y e = cc
+refused-with false f g y e = let z : _≡_ {A = ℕ} 0 1 = cc in absurd (omega arith)
+
+pub refused : {A B : Type 0} (b : Bool) (f g : Fault) (y : A) (r : Result B Fault) → Err g ≡ refuse b f (Ok y) → Err g ≡ refuse b f r
+refused b f g y r e = rw (refused-test b f g y e, refused-with b f g y e)

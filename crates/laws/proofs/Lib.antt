@@ -1,0 +1,10 @@
+pub mod Lists
+pub mod Faults
+pub mod Lengths
+pub mod Tuples
+pub mod Zeros
+pub mod Strides
+pub mod Words
+pub mod Reach
+pub mod Overlap
+pub mod Opened
