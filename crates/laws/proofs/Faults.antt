@@ -17,6 +17,11 @@ pub passed-with : {A : Type 0} (b : Bool) (f : Fault) (x y : A) → Ok x ≡ ref
 passed-with true f x y e = let z : _≡_ {A = ℕ} 0 1 = cc in absurd (omega arith)
 passed-with false f x y e = cc
 
+-- a check was passed, and what came after it gave the answer
+pub passed-on : {A : Type 0} (b : Bool) (f : Fault) (x : A) (r : Result A Fault) → Ok x ≡ refuse b f r → (b ≡ false) × (Ok x ≡ r)
+passed-on true f x r e = let z : _≡_ {A = ℕ} 0 1 = cc in absurd (omega arith)
+passed-on false f x r e = (refl, e)
+
 -- the test of a check that refused, its fault, and that it refuses whatever would have come after
 pub refused-test : {A : Type 0} (b : Bool) (f g : Fault) (y : A) → Err g ≡ refuse b f (Ok y) → b ≡ true
 refused-test true f g y e = refl

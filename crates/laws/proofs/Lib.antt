@@ -6,5 +6,9 @@ pub mod Zeros
 pub mod Strides
 pub mod Words
 pub mod Reach
+pub mod Others
 pub mod Overlap
 pub mod Opened
+pub mod Walks
+pub mod Cells
+pub mod Filling

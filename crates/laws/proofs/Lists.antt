@@ -54,6 +54,12 @@ none-getD [] i e = refl
 none-getD (x ∷ xs) zero e = let z : _≡_ {A = ℕ} 0 1 = cc in absurd (omega arith)
 none-getD (x ∷ xs) (suc i) e = none-getD xs i e
 
+-- an element that is not 0 stands within the list
+pub getD-within : (xs : List ℕ) (i : ℕ) → 0 < getD xs i 0 → i < length xs
+getD-within [] i h = absurd (omega arith)
+getD-within (x ∷ xs) zero h = omega arith
+getD-within (x ∷ xs) (suc i) h = let l = getD-within xs i h in omega arith
+
 module _ {A : Type 0} (f : A → Bool) where
   pub some-here : (xs : List A) (i : ℕ) (d : A) → i < length xs → f (getD xs i d) ≡ true → someOf f (drop i xs) ≡ true
   some-here xs i d l e = at-drop-more (someOf f) xs i d l ∙ ap (λ b. b || someOf f (drop (i + 1) xs)) e

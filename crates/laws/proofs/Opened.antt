@@ -12,13 +12,16 @@ use lib.IntN.{ℤ, pos, negsuc, natAbs}
 use lib.ListN.{length, replicate, length-map, length-replicate}
 use mir.Syntax.{w64}
 use mir.Val.{toZ}
+use Rattle.std.specs.declared.result.Result.the-variants.{Ok}
 use Rattle.std.proofs.shelf.Signed.{ints, toZ-pos}
 use Rattle.std.proofs.shelf.Tests.{both-ways, eqb-true, ltb-false, leb-false, not-false, cond-both, cases-bool}
 use Rattle.laws.specs.Lengths.{product, nonzero, nonzeros, someZero}
 use Rattle.laws.specs.Tuples.{Within, place}
 use Rattle.laws.specs.Strides.{signed, laters, earliers, rowMajor, columnMajor}
-use Rattle.laws.specs.Space.{Sound, Distinct, Bounds, up, down}
-use Rattle.laws.specs.Opening.{limit, span, someNegative, someAbove, overflows, tooFew, overlaps, fresh}
+use Rattle.laws.specs.Space.{Seen, Sound, Distinct, Bounds, up, down}
+use Rattle.laws.specs.Faults.{inRows, inGrid}
+use Rattle.laws.specs.Opening.{limit, span, someNegative, someAbove, overflows, tooFew, overlaps, fresh, strided}
+use Rattle.laws.proofs.Faults.{passed-on}
 use Rattle.laws.proofs.Tuples.{factor-left, factor-right, place-inj, product-pos}
 use Rattle.laws.proofs.Lengths.{nonzero-pos, nonzero-above, nonzeros-pos, product-below}
 use Rattle.laws.proofs.Zeros.{some-zero-product, no-zero-product}
@@ -111,14 +114,26 @@ naturals (pos n ∷ zs) e = ap (λ t. pos n ∷ t) (naturals zs e)
 naturals (negsuc n ∷ zs) e = absurd (both-ways true e refl)
 
 -- what opening with a stride row does not refuse
-pub strided-sound : (cells size : ℕ) (ls : List ℕ) (zs : List ℤ) → length ls ≤ 8 → ltb limit cells ≡ false → not (eqb (length ls) (length zs)) ≡ false
-    → someNegative zs ≡ false → overflows size ls zs ≡ false → ltb limit (nonzeros ls) ≡ false → someAbove limit zs ≡ false
-    → tooFew cells ls zs ≡ false → overlaps ls zs ≡ false → Sound (fresh cells ls zs)
-strided-sound cells size ls zs few narrow ranks upwards _ small _ enough free =
+strided-sound : (cells : ℕ) (ls : List ℕ) (zs : List ℤ) → length ls ≤ 8 → ltb limit cells ≡ false → not (eqb (length ls) (length zs)) ≡ false
+    → someNegative zs ≡ false → ltb limit (nonzeros ls) ≡ false → tooFew cells ls zs ≡ false → overlaps ls zs ≡ false → Sound (fresh cells ls zs)
+strided-sound cells ls zs few narrow ranks upwards small enough free =
     let same = eqb-true (length ls) (length zs) (not-false (eqb (length ls) (length zs)) ranks) in
     let paired : length ls ≡ length (map natAbs zs) = same ∙ sym (length-map zs natAbs) in
     let sound = given cells ls few (ltb-false limit cells narrow) (ltb-false limit (nonzeros ls) small) (map natAbs zs) paired in
     subst (λ (ys : List ℤ). tooFew cells ls ys ≡ false → overlaps ls ys ≡ false → Sound (fresh cells ls ys)) (naturals zs upwards) sound enough free
+
+-- a grid that was opened with a stride row
+pub strided-opened : (cells size : ℕ) (ls : List ℕ) (zs : List ℤ) (s : Seen) → length ls ≤ 8 → Ok s ≡ strided cells size ls zs → Sound (fresh cells ls zs)
+strided-opened cells size ls zs s few e =
+    let narrow = passed-on (ltb limit cells) (inRows 12) s _ e in
+    let rank = passed-on (not (eqb (length ls) (length zs))) (inRows 2) s _ (narrow .1) in
+    let signs = passed-on (someNegative zs) (inRows 5) s _ (rank .1) in
+    let fits = passed-on (overflows size ls zs) (inRows 6) s _ (signs .1) in
+    let small = passed-on (ltb limit (nonzeros ls)) (inRows 12) s _ (fits .1) in
+    let steps = passed-on (someAbove limit zs) (inRows 12) s _ (small .1) in
+    let enough = passed-on (tooFew cells ls zs) (inGrid 4) s _ (steps .1) in
+    let apart = passed-on (overlaps ls zs) (inRows 5) s _ (enough .1) in
+    strided-sound cells ls zs few (narrow .0) (rank .0) (signs .0) (small .0) (enough .0) (apart .0)
 
 -- ---- row-major
 

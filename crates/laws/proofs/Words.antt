@@ -3,7 +3,7 @@ use mathlib.Core.Path.{_≡_, refl, sym, ap, subst, _∙_}
 use mathlib.Core.List.{List}
 use mathlib.Core.Bool.{true, false}
 use mathlib.Core.Logic.{inl, inr}
-use Prim.Native.Nat.{ℕ, suc, _+_, _-_, _*_, _^_, _%_, _<_}
+use Prim.Native.Nat.{ℕ, suc, _+_, _-_, _*_, _^_, _%_, _≤_, _<_}
 use native.Mathlib.Nat.{mul-add, mod-eq-of-lt, add-mul-mod-self-right}
 use native.Mathlib.Omega.{arith}
 use lib.Dec.{T, ltb}
@@ -13,19 +13,30 @@ use mir.Syntax.{w64}
 use mir.Val.{toZ}
 use Rattle.std.proofs.shelf.Lists.{length-map, getD-map}
 use Rattle.std.proofs.shelf.Signed.{toZ-pos, ints}
-use Rattle.std.proofs.shelf.Tests.{ltb-true, cases-bool}
+use Rattle.std.proofs.shelf.Tests.{ltb-true, lt-ltb, le-ltb, cases-bool}
 use Rattle.std.proofs.shelf.Ways.{tells}
 use Rattle.laws.specs.Strides.{signed, onward}
 use Rattle.laws.specs.Space.{inside}
+use Rattle.laws.specs.Opening.{isNegative}
 
 -- ---- a row of strides
 
 pub length-signed : (ws : List ℕ) → length (signed ws) ≡ length ws
 length-signed ws = length-map ws (λ w. toZ w64 w)
 
+pub signed-at : (ws : List ℕ) (i : ℕ) → i < length ws → getD (signed ws) i (pos 0) ≡ toZ w64 (getD ws i 0)
+signed-at ws i l = getD-map (λ w. toZ w64 w) ws i 0 (pos 0) l
+
 -- a stride as code reads it from its row
 pub stride-read : (ws : List ℕ) (axis stride : ℕ) → axis < length ws → stride ≡ getD ws axis 0 → toZ w64 stride ≡ getD (signed ws) axis (pos 0)
-stride-read ws axis stride h e = ap (toZ w64) e ∙ sym (getD-map (λ w. toZ w64 w) ws axis 0 (pos 0) h)
+stride-read ws axis stride h e = ap (toZ w64) e ∙ sym (signed-at ws axis h)
+
+-- which words read as negative
+pub negative-word : (w : ℕ) → 2 ^ 63 ≤ w → isNegative (toZ w64 w) ≡ true
+negative-word w h = rw (le-ltb w (2 ^ 63) h)
+
+pub positive-word : (w : ℕ) → w < 2 ^ 63 → isNegative (toZ w64 w) ≡ false
+positive-word w h = rw (lt-ltb w (2 ^ 63) h)
 
 -- ---- at least 0 and below n
 

@@ -3,8 +3,9 @@ use mathlib.Core.Path.{_≡_, refl}
 use mathlib.Core.List.{List, [], _∷_}
 use mathlib.Core.Bool.{Bool, true, false}
 use mathlib.Core.Logic.{inl, inr}
-use Prim.Native.Nat.{ℕ, _<_}
+use Prim.Native.Nat.{ℕ, _+_, _<_}
 use native.Mathlib.Nat.{mul-zero, zero-mul}
+use native.Mathlib.Numerals.{add-one}
 use native.Mathlib.Omega.{arith}
 use lib.Dec.{eqb}
 use Rattle.std.specs.Orderings.{Decides}
@@ -28,6 +29,12 @@ below-none n f e i h =
       | inl on ↦ absurd (both-ways (someBelow n f) e (below-decides n f .1 (i, h, on)))
       | inr off ↦ off
     ]
+
+pub below-at : (n i : ℕ) (f : ℕ → Bool) → i < n → f i ≡ true → someBelow n f ≡ true
+below-at n i f h e = below-decides n f .1 (i, h, e)
+
+pub below-next : (i : ℕ) (f : ℕ → Bool) → someBelow i f ≡ false → f i ≡ false → someBelow (i + 1) f ≡ false
+below-next i f before here = rw (add-one i, here) before
 
 -- ---- whether some length is 0
 

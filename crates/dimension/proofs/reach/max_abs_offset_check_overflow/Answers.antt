@@ -12,7 +12,7 @@ use Rattle.laws.specs.Faults.{Fault, inRows, refuse}
 use Rattle.laws.specs.Strides.{signed}
 use Rattle.laws.specs.Opening.{span, most}
 use Rattle.laws.proofs.Faults.{passed, refused-test, refused-with}
-use Rattle.laws.proofs.Reach.{length-signed}
+use Rattle.laws.proofs.Words.{length-signed}
 use Rattle.dimension.specs.Errors.{rowFault}
 use Rattle.dimension.proofs.Limits.{limited-some, limited-none}
 use Rattle.dimension.proofs.reach.max_abs_offset_check_overflow.Needs as need

@@ -11,7 +11,7 @@ use Rattle.laws.specs.Faults.{Fault, inRows}
 use Rattle.laws.specs.Strides.{signed}
 use Rattle.laws.specs.Opening.{isNegative}
 use Rattle.laws.proofs.Lists.{some-here, some-more, some-none}
-use Rattle.laws.proofs.Reach.{length-signed, signed-at, negative-word, positive-word}
+use Rattle.laws.proofs.Words.{length-signed, signed-at, negative-word, positive-word}
 use Rattle.dimension.proofs.reach.strides_non_negative.Needs as need
 
 pub returns-then-word-at-gt-MOST : need.returns-then-word-at-gt-MOST

@@ -10,7 +10,7 @@ use mir.Val.{toZ}
 use Rattle.std.proofs.shelf.Tests.{lt-ltb, le-ltb}
 use Rattle.laws.specs.Strides.{signed}
 use Rattle.laws.proofs.Lists.{some-here, some-more, some-none}
-use Rattle.laws.proofs.Reach.{length-signed, signed-at}
+use Rattle.laws.proofs.Words.{length-signed, signed-at}
 use Rattle.dimension.proofs.reach.strides_within.Needs as need
 
 pub returns-then-magnitude-limit : need.returns-then-magnitude-limit
