@@ -1,6 +1,8 @@
 ghost use mathlib.Core.Path.{_≡_};
 ghost use mathlib.Core.Bool.{cond, not};
+ghost use mathlib.Core.List.{[], _∷_};
 ghost use lib.Dec.{eqb, leb, ltb};
+ghost use lib.IntN.{pos};
 ghost use lib.ListN.{length};
 ghost use Rattle.std.specs.declared.result.Result.the-variants.{Ok};
 ghost use Rattle.laws.specs.Lengths.{nonzeros};
@@ -15,7 +17,7 @@ use super::Layout;
 use super::overlap::{dim_stride_overlap, is_empty};
 use crate::error::{Cause, GridCall, GridFault, GridFaultFromRow, at_call};
 use crate::shape_builder::Strides;
-use dimension::{Dimension, IxDyn, IxDynDimension, Order, RowFault};
+use dimension::{Dimension, Ix1, Ix1Dimension, IxDyn, IxDynDimension, Order, RowFault};
 use dimension::{default_strides, fortran_strides, lengths_within, max_abs_offset_check_overflow};
 use dimension::{size_of_shape_checked, strides_non_negative, strides_within};
 
@@ -109,6 +111,14 @@ fn open_strided<D: Dimension, S: Dimension>(cells: usize, size: usize, dim: &D, 
 }
 
 impl Layout {
+    /// The grid of length 0 over no cells.
+    pub fn blank() -> Layout
+        ensures { λ r. ⌜ seen r ≡ fresh 0 (0 ∷ []) (pos 0 ∷ []) ⌝ }
+    {
+        let row = IxDyn::copy_of(&Ix1(0));
+        Layout { cells: 0, start: 0, lens: row, strides: row }
+    }
+
     /// Opens a grid over this many cells of this size, with these lengths, from cell 0 on.
     pub fn open<D: Dimension, S: Dimension>(cells: usize, size: usize, dim: &D, strides: &Strides<S>) -> Result<Layout, GridFault>
         ensures { λ r. ⌜ answered seen r ≡ calling GridCall.Open (opening cells size (D·Dimension .words (now (dim .entry))) (given (S·Dimension .words) (now (strides .entry)))) ⌝ }

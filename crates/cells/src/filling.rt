@@ -1,0 +1,29 @@
+ghost use mathlib.Core.Path.{_≡_};
+ghost use lib.ListN.{length};
+ghost use Rattle.std.specs.Results.{Cases};
+ghost use Rattle.laws.specs.Filling.{Filled, filled, lent};
+ghost use Rattle.grid.specs.declared.error.GridCall.the-variants.{Fill};
+ghost use Rattle.grid.specs.Errors.{answered, calling};
+ghost use Rattle.grid.specs.Layouts.{seen};
+use crate::walk::{cell_of, first_index, next_for};
+use dimension::IxDynDimension;
+use grid::{Cause, GridCall, GridFault, Layout};
+
+/// Gives the grid's cells, and no others, one value.
+pub fn fill<T: Copy>(layout: &Layout, cells: &mut [T], value: T) -> Result<(), GridFault>
+    ensures answer { λ r. ⌜ answered (λ u. u) r ≡ calling Fill (lent (seen (now (layout .entry))) (length (now (cells .entry)))) ⌝ }
+    ensures after { λ _. ⌜ now (cells .exit) ≡ filled (seen (now (layout .entry))) value (now (cells .entry)) ⌝ }
+    ensures law { λ r. ⌜ Cases r (λ _. Filled (seen (now (layout .entry))) value (now (cells .entry)) (now (cells .exit))) (λ _. now (cells .exit) ≡ now (cells .entry)) ⌝ }
+{
+    if cells.len() != layout.cell_count() {
+        return Err(GridFault { cause: Cause::OutOfBounds, call: GridCall::Fill });
+    }
+    let lens = layout.lens();
+    let mut next = first_index(&lens);
+    while let Some(index) = next {
+        let at = cell_of(layout, &index);
+        cells[at] = value;
+        next = next_for(&lens, index);
+    }
+    Ok(())
+}
