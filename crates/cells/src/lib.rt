@@ -5,5 +5,5 @@ mod reader;
 mod walk;
 
 pub use filling::fill;
-pub use pay::PayLine;
+pub use pay::{PayLine, PayLineDebug, PayLineEq, PayLinePartialEq};
 pub use reader::Reader;
