@@ -5,8 +5,10 @@ ghost use lib.Dec.{eqb, leb, ltb};
 ghost use lib.IntN.{pos};
 ghost use lib.ListN.{length};
 ghost use Rattle.std.specs.declared.result.Result.the-variants.{Ok};
+ghost use Rattle.std.specs.Vec.{made};
 ghost use Rattle.laws.specs.Lengths.{nonzeros};
 ghost use Rattle.laws.specs.Strides.{signed};
+ghost use Rattle.laws.specs.Space.{Sound};
 ghost use Rattle.laws.specs.Faults.{inRows, refuse};
 ghost use Rattle.laws.specs.Opening.{limit, someAbove, fresh, ordered, strided, opening};
 ghost use Rattle.dimension.specs.Errors.{answered as rowAnswered};
@@ -121,7 +123,8 @@ impl Layout {
 
     /// Opens a grid over this many cells of this size, with these lengths, from cell 0 on.
     pub fn open<D: Dimension, S: Dimension>(cells: usize, size: usize, dim: &D, strides: &Strides<S>) -> Result<Layout, GridFault>
-        ensures { λ r. ⌜ answered seen r ≡ calling GridCall.Open (opening cells size (D·Dimension .words (now (dim .entry))) (given (S·Dimension .words) (now (strides .entry)))) ⌝ }
+        ensures answer { λ r. ⌜ answered seen r ≡ calling GridCall.Open (opening cells size (D·Dimension .words (now (dim .entry))) (given (S·Dimension .words) (now (strides .entry)))) ⌝ }
+        ensures law { λ r. ⌜ made r (λ layout. Sound (seen layout)) ⌝ }
     {
         match strides {
             Strides::C => open_ordered(cells, dim, Order::RowMajor),
