@@ -5,9 +5,14 @@ ghost use Rattle.laws.specs.Filling.{Filled, filled, lent};
 ghost use Rattle.grid.specs.declared.error.GridCall.the-variants.{Fill};
 ghost use Rattle.grid.specs.Errors.{answered, calling};
 ghost use Rattle.grid.specs.Layouts.{seen};
-use crate::walk::{cell_of, first_index, next_for};
+use crate::walk::cell_of;
+use crate::walk::first_index;
+use crate::walk::next_for;
 use dimension::IxDynDimension;
-use grid::{Cause, GridCall, GridFault, Layout};
+use grid::Cause;
+use grid::GridCall;
+use grid::GridFault;
+use grid::Layout;
 
 /// Gives the grid's cells, and no others, one value.
 pub fn fill<T: Copy>(layout: &Layout, cells: &mut [T], value: T) -> Result<(), GridFault>
@@ -16,7 +21,10 @@ pub fn fill<T: Copy>(layout: &Layout, cells: &mut [T], value: T) -> Result<(), G
     ensures law { λ r. ⌜ Cases r (λ _. Filled (seen (now (layout .entry))) value (now (cells .entry)) (now (cells .exit))) (λ _. now (cells .exit) ≡ now (cells .entry)) ⌝ }
 {
     if cells.len() != layout.cell_count() {
-        return Err(GridFault { cause: Cause::OutOfBounds, call: GridCall::Fill });
+        return Err(GridFault {
+            cause: Cause::OutOfBounds,
+            call: GridCall::Fill,
+        });
     }
     let lens = layout.lens();
     let mut next = first_index(&lens);

@@ -5,5 +5,8 @@ mod reader;
 mod walk;
 
 pub use filling::fill;
-pub use pay::{PayLine, PayLineDebug, PayLineEq, PayLinePartialEq};
+pub use pay::PayLine;
+pub use pay::PayLineDebug;
+pub use pay::PayLineEq;
+pub use pay::PayLinePartialEq;
 pub use reader::Reader;

@@ -7,7 +7,11 @@ ghost use Rattle.laws.specs.Space.{cell};
 ghost use Rattle.std.specs.Options.{Cases};
 ghost use Rattle.dimension.specs.Rows.{listed};
 ghost use Rattle.grid.specs.Layouts.{seen};
-use dimension::{Dimension, IxDyn, IxDynDimension, stride_offset, word_at};
+use dimension::Dimension;
+use dimension::IxDyn;
+use dimension::IxDynDimension;
+use dimension::stride_offset;
+use dimension::word_at;
 use grid::Layout;
 
 /// The first tuple within the lengths, if there is one.

@@ -17,12 +17,12 @@ limited-fits n h = ap (λ b. cond b None (Some n)) (sym (le-ltb (2 ^ 63 - 1) n h
 
 pub limited-some : (n m : ℕ) → Some m ≡ limited n → (m ≡ n) × (n ≤ 2 ^ 63 - 1)
 limited-some n m e = elim (cases-lt (2 ^ 63 - 1) n) [
-    inl over ↦ let f = limited-over n over in let z : _≡_ {A = ℕ} 0 1 = cc in absurd (omega arith)
+  | inl over ↦ let f = limited-over n over in let z : _≡_ {A = ℕ} 0 1 = cc in absurd (omega arith)
   | inr under ↦ let f = limited-fits n under in (cc, under)
-  ]
+]
 
 pub limited-none : (n : ℕ) → None ≡ limited n → 2 ^ 63 - 1 < n
 limited-none n e = elim (cases-lt (2 ^ 63 - 1) n) [
-    inl over ↦ over
+  | inl over ↦ over
   | inr under ↦ let f = limited-fits n under in let z : _≡_ {A = ℕ} 0 1 = cc in absurd (omega arith)
-  ]
+]

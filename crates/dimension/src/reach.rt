@@ -75,7 +75,11 @@ fn checked_reach<D: Dimension, S: Dimension>(dim: &D, strides: &S) -> Option<usi
 }
 
 /// The reach of a shape with strides, which in bytes is within 63 bits too.
-pub fn max_abs_offset_check_overflow<D: Dimension, S: Dimension>(size: usize, dim: &D, strides: &S) -> Result<usize, RowFault>
+pub fn max_abs_offset_check_overflow<D: Dimension, S: Dimension>(
+    size: usize,
+    dim: &D,
+    strides: &S,
+) -> Result<usize, RowFault>
     ensures { λ r. ⌜ answered (λ n. n) r ≡ reached size (D·Dimension .words (now (dim .entry))) (signed (S·Dimension .words (now (strides .entry)))) ⌝ }
 {
     if dim.ndim() != strides.ndim() {

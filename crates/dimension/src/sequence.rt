@@ -23,11 +23,19 @@ pub impl<D: Dimension> Dimension for Reverse<D> as ReverseDimension {
 
     fn get(&self, place: usize) -> Option<usize> {
         let count = self.0.ndim();
-        if place < count { self.0.get(count - 1 - place) } else { None }
+        if place < count {
+            self.0.get(count - 1 - place)
+        } else {
+            None
+        }
     }
 
     fn set(&mut self, place: usize, word: usize) -> bool {
         let count = self.0.ndim();
-        if place < count { self.0.set(count - 1 - place, word) } else { false }
+        if place < count {
+            self.0.set(count - 1 - place, word)
+        } else {
+            false
+        }
     }
 }

@@ -8,7 +8,7 @@ use Rattle.std.specs.declared.result.Result.the-variants.{Ok, Err}
 use Rattle.laws.specs.Faults.{Fault, refuse}
 use Rattle.laws.proofs.Faults.{passed, passed-with, refused}
 use Rattle.dimension.specs.declared.error.RowFault.{RowFault}
-use Rattle.dimension.specs.Errors.{rowFault} 
+use Rattle.dimension.specs.Errors.{rowFault}
 use Rattle.dimension.specs.Errors as rows
 use Rattle.grid.specs.declared.error.GridCall.{GridCall}
 use Rattle.grid.specs.declared.error.During.{During}
@@ -24,7 +24,7 @@ module _ {A B : Type 0} (shows : A → B) (call : GridCall) (b : Bool) (f : Faul
 
   -- a check that refused hands its fault up whole, with the call
   pub handed-up : {C : Type 0} (r : Result A RowFault) (d : During RowFault) (rest : Result C Fault) → Err d ≡ noted r call → rows.answered shows r ≡ refuse b f (Ok y)
-    → Err (record { fault = rowFault (d .fault); call = d .call }) ≡ calling call (refuse b f rest)
+      → Err (record { fault = rowFault (d .fault); call = d .call }) ≡ calling call (refuse b f rest)
   handed-up (Ok z) d rest e h = let z : _≡_ {A = ℕ} 0 1 = cc in absurd (omega arith)
   handed-up {C} (Err g) d rest e h =
       let same : d ≡ record { fault = g; call = call } = cc in

@@ -2,7 +2,11 @@ ghost use mathlib.Core.Path.{_≡_};
 ghost use Rattle.dimension.specs.Errors.{layerOf};
 ghost use Rattle.grid.specs.declared.error.Cause.the-variants.{Rows};
 ghost use Rattle.grid.specs.Errors.{noted, told};
-use dimension::{Layer, RowFault, RowFaultDebug, RowFaultEq, RowFaultPartialEq};
+use dimension::Layer;
+use dimension::RowFault;
+use dimension::RowFaultDebug;
+use dimension::RowFaultEq;
+use dimension::RowFaultPartialEq;
 
 /// The calls on a grid and on its cells.
 #[derive(Clone, Copy, PartialEq, Eq, Debug)]
@@ -76,6 +80,9 @@ pub impl From<During<RowFault>> for GridFault as GridFaultFromRow {
     ghost converts = { λ d r. r ≡ record { cause = Rows (d .fault); call = d .call } };
 
     fn from(d: During<RowFault>) -> GridFault {
-        GridFault { cause: Cause::Rows(d.fault), call: d.call }
+        GridFault {
+            cause: Cause::Rows(d.fault),
+            call: d.call,
+        }
     }
 }

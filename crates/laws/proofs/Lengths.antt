@@ -49,7 +49,7 @@ within a by m p h = le-div-iff-mul-le p .0 h
 
 pub past : (a by m : ℕ) → 0 < by → m / by < a → m < a * by
 past a by m p h = elim (cases-lt m (a * by)) [
-    inl l ↦ l
+  | inl l ↦ l
   | inr le ↦ let b : a ≤ m / by = le-div-iff-mul-le p .1 le in absurd (omega arith)
 ]
 
@@ -91,7 +91,7 @@ pub part-more : (ws : List ℕ) (i a n t : ℕ) → i < length ws → n ≡ getD
 part-more ws i a n t l e h =
     let step : nonzeros (drop i ws) ≡ nonzero (getD ws i 0) * nonzeros (drop (i + 1) ws) = at-drop-more nonzeros ws i 0 l in
     let above : n * nonzeros (drop (i + 1) ws) ≤ nonzero (getD ws i 0) * nonzeros (drop (i + 1) ws) =
-      mul-le-mul (subst (λ (k : ℕ). k ≤ nonzero (getD ws i 0)) (sym e) (nonzero-above (getD ws i 0))) (omega arith) in
+    mul-le-mul (subst (λ (k : ℕ). k ≤ nonzero (getD ws i 0)) (sym e) (nonzero-above (getD ws i 0))) (omega arith) in
     let less = mul-le-mul-left a above in
     let turn = mul-assoc a n (nonzeros (drop (i + 1) ws)) in
     let whole = ap (λ k. a * k) step in

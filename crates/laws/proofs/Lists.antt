@@ -33,16 +33,16 @@ set-reverse xs i y l =
     let e2 : length (reverse (set xs j y)) ≡ length (set xs j y) = length-reverse (set xs j y) in
     let e3 : length (set (reverse xs) i y) ≡ length (reverse xs) = length-set (reverse xs) i y in
     same-lists (reverse (set xs j y)) (set (reverse xs) i y) (e2 ∙ e1 ∙ sym e ∙ sym e3) (λ k d h.
-      let back : getD (reverse (set xs j y)) k d ≡ getD (set xs j y) (length xs - 1 - k) d =
-          getD-reverse (set xs j y) k d (omega arith) ∙ ap (λ n. getD (set xs j y) (n - 1 - k) d) e1 in
-      elim (cases-eq k i) [
-        inl same ↦
+    let back : getD (reverse (set xs j y)) k d ≡ getD (set xs j y) (length xs - 1 - k) d =
+    getD-reverse (set xs j y) k d (omega arith) ∙ ap (λ n. getD (set xs j y) (n - 1 - k) d) e1 in
+    elim (cases-eq k i) [
+      | inl same ↦
           let here : length xs - 1 - k ≡ j = omega arith in
           back ∙ ap (λ n. getD (set xs j y) n d) here ∙ getD-set-same xs j y d (omega arith) ∙ sym (getD-set-same (reverse xs) i y d (omega arith)) ∙ ap (λ n. getD (set (reverse xs) i y) n d) (sym same)
       | inr other ↦
           let ne : length xs - 1 - k ≢ j = λ q. other (omega arith) in
           back ∙ getD-set-other xs j (length xs - 1 - k) y d ne ∙ sym (getD-reverse xs k d (omega arith)) ∙ sym (getD-set-other (reverse xs) i k y d other)
-      ])
+    ])
 
 pub some-getD : (xs : List ℕ) (i w : ℕ) → Some w ≡ nth xs i → w ≡ getD xs i 0
 some-getD [] i w e = let z : _≡_ {A = ℕ} 0 1 = cc in absurd (omega arith)

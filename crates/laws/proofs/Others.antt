@@ -81,6 +81,6 @@ parts-step k m i n step r far t ls ws l e length-is step-is r-is inv =
     let more = parts-more k m ls (signed ws) i l (omega arith) in
     let magnitude : step ≡ natAbs (getD (signed ws) i (pos 0)) = step-is ∙ ap natAbs (sym (signed-at ws i (omega arith))) in
     let one : r ≡ part i k m (getD ls i 0) (getD (signed ws) i (pos 0)) =
-      r-is ∙ ap (λ d. cond (eqb i k) 0 (cond (leb step m) ((d - 1) * step) 0)) length-is
-      ∙ ap (λ d. cond (eqb i k) 0 (cond (leb d m) ((getD ls i 0 - 1) * d) 0)) magnitude in
+    r-is ∙ ap (λ d. cond (eqb i k) 0 (cond (leb step m) ((d - 1) * step) 0)) length-is
+    ∙ ap (λ d. cond (eqb i k) 0 (cond (leb d m) ((getD ls i 0 - 1) * d) 0)) magnitude in
     omega arith

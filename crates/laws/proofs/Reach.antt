@@ -15,7 +15,7 @@ use Rattle.laws.proofs.Words.{length-signed, signed-at}
 
 module _ (f : ℤ → ℕ) where
   pub reach-more : (ls : List ℕ) (zs : List ℤ) (i : ℕ) → i < length ls → i < length zs
-    → reach f (drop i ls) (drop i zs) ≡ (getD ls i 0 - 1) * f (getD zs i (pos 0)) + reach f (drop (i + 1) ls) (drop (i + 1) zs)
+      → reach f (drop i ls) (drop i zs) ≡ (getD ls i 0 - 1) * f (getD zs i (pos 0)) + reach f (drop (i + 1) ls) (drop (i + 1) zs)
   reach-more ls zs i l m =
       ap (λ r. reach f r (drop i zs)) (drop-more ls i 0 l) ∙ ap (λ r. reach f (getD ls i 0 ∷ drop (i + 1) ls) r) (drop-more zs i (pos 0) m)
 
@@ -24,7 +24,7 @@ module _ (f : ℤ → ℕ) where
 
   -- the same for strides that are still words
   pub reach-word : (ls ws : List ℕ) (i : ℕ) → i < length ls → length ls ≡ length ws
-    → reach f (drop i ls) (drop i (signed ws)) ≡ (getD ls i 0 - 1) * f (toZ w64 (getD ws i 0)) + reach f (drop (i + 1) ls) (drop (i + 1) (signed ws))
+      → reach f (drop i ls) (drop i (signed ws)) ≡ (getD ls i 0 - 1) * f (toZ w64 (getD ws i 0)) + reach f (drop (i + 1) ls) (drop (i + 1) (signed ws))
   reach-word ls ws i l e =
       let m = length-signed ws in
       reach-more ls (signed ws) i l (omega arith)

@@ -121,6 +121,6 @@ other-order ws =
     ap (λ b. reverse (cond b (replicate (length (reverse ws)) 0) (laters (reverse ws)))) (zero-reverse ws)
     ∙ by (someZero ws)
   where
-  by : (b : Bool) → reverse (cond b (replicate (length (reverse ws)) 0) (laters (reverse ws))) ≡ cond b (replicate (length ws) 0) (earliers 1 ws)
-  by true = reverse-zeros (length (reverse ws)) ∙ ap (λ k. replicate k 0) (length-reverse ws)
-  by false = ap reverse (sym (scaled-one (reverse ws))) ∙ turned 1 ws
+    by : (b : Bool) → reverse (cond b (replicate (length (reverse ws)) 0) (laters (reverse ws))) ≡ cond b (replicate (length ws) 0) (earliers 1 ws)
+    by true = reverse-zeros (length (reverse ws)) ∙ ap (λ k. replicate k 0) (length-reverse ws)
+    by false = ap reverse (sym (scaled-one (reverse ws))) ∙ turned 1 ws

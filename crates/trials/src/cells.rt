@@ -1,6 +1,15 @@
-use cells::{PayLine, PayLineDebug, PayLinePartialEq, Reader, fill};
-use dimension::{Ix1, Ix1Dimension, Ix2, Ix2Dimension};
-use grid::{GridFaultDebug, Layout, Strides};
+use cells::PayLine;
+use cells::PayLineDebug;
+use cells::PayLinePartialEq;
+use cells::Reader;
+use cells::fill;
+use dimension::Ix1;
+use dimension::Ix1Dimension;
+use dimension::Ix2;
+use dimension::Ix2Dimension;
+use grid::GridFaultDebug;
+use grid::Layout;
+use grid::Strides;
 use std::test::*;
 
 #[test]
@@ -49,8 +58,16 @@ fn reading_finds_the_value_or_none() -> Result<(), Fail> {
 #[test]
 fn pay_lines_are_cells_too() -> Result<(), Fail> {
     let grid = Layout::open(3, 16, &Ix1(2), &Strides::Custom(Ix1(2)))?;
-    let none = PayLine { person: 0, code: 0, cents: 0 };
-    let line = PayLine { person: 4_294_967_295, code: 255, cents: -1 };
+    let none = PayLine {
+        person: 0,
+        code: 0,
+        cents: 0,
+    };
+    let line = PayLine {
+        person: 4_294_967_295,
+        code: 255,
+        cents: -1,
+    };
     let mut lines = [none; 3];
     fill(&grid, &mut lines, line)?;
     check_eq((lines[0], lines[1], lines[2]), (line, none, line))

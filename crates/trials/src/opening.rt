@@ -1,5 +1,15 @@
-use dimension::{Dimension, Ix1, Ix1Dimension, Ix2, Ix2Dimension, IxDyn, IxDynDimension, RowFaultDebug};
-use grid::{GridFault, GridFaultDebug, Layout, Strides};
+use dimension::Dimension;
+use dimension::Ix1;
+use dimension::Ix1Dimension;
+use dimension::Ix2;
+use dimension::Ix2Dimension;
+use dimension::IxDyn;
+use dimension::IxDynDimension;
+use dimension::RowFaultDebug;
+use grid::GridFault;
+use grid::GridFaultDebug;
+use grid::Layout;
+use grid::Strides;
 use std::test::*;
 
 /// The number of the fault that opening gives, or 0.
@@ -19,7 +29,10 @@ fn strided(cells: usize, lens: Ix2, strides: Ix2) -> u8 {
 fn each_refusal_alone() -> Result<(), Fail> {
     check_eq(strided(6, Ix2(2, 3), Ix2(3, 1)), 0)?;
     check_eq(strided(1_048_577, Ix2(2, 3), Ix2(3, 1)), 12)?;
-    check_eq(number(Layout::open(6, 1, &Ix2(2, 3), &Strides::Custom(Ix1(1)))), 2)?;
+    check_eq(
+        number(Layout::open(6, 1, &Ix2(2, 3), &Strides::Custom(Ix1(1)))),
+        2,
+    )?;
     check_eq(strided(6, Ix2(2, 3), Ix2(usize::MAX, 1)), 5)?;
     check_eq(strided(6, Ix2(1 << 40, 1 << 40), Ix2(0, 0)), 6)?;
     check_eq(strided(1_048_576, Ix2(1024, 1025), Ix2(0, 0)), 12)?;
@@ -30,10 +43,19 @@ fn each_refusal_alone() -> Result<(), Fail> {
 
 #[test]
 fn the_earlier_of_two_refusals() -> Result<(), Fail> {
-    check_eq(number(Layout::open(1_048_577, 1, &Ix2(2, 3), &Strides::Custom(Ix1(1)))), 12)?;
-    check_eq(number(Layout::open(6, 1, &Ix2(2, 3), &Strides::Custom(Ix1(usize::MAX)))), 2)?;
+    check_eq(
+        number(Layout::open(1_048_577, 1, &Ix2(2, 3), &Strides::Custom(Ix1(1)))),
+        12,
+    )?;
+    check_eq(
+        number(Layout::open(6, 1, &Ix2(2, 3), &Strides::Custom(Ix1(usize::MAX)))),
+        2,
+    )?;
     check_eq(strided(6, Ix2(1 << 40, 1 << 40), Ix2(usize::MAX, 1)), 5)?;
-    check_eq(number(Layout::open(6, 1 << 63, &Ix2(1, 2), &Strides::Custom(Ix2(1_048_577, 1)))), 6)?;
+    check_eq(
+        number(Layout::open(6, 1 << 63, &Ix2(1, 2), &Strides::Custom(Ix2(1_048_577, 1)))),
+        6,
+    )?;
     check_eq(strided(6, Ix2(1024, 1025), Ix2(1_048_577, 1)), 12)?;
     check_eq(strided(6, Ix2(8, 1), Ix2(1_048_577, 1)), 12)?;
     check_eq(strided(4, Ix2(2, 3), Ix2(3, 2)), 4)

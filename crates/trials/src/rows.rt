@@ -1,6 +1,20 @@
-use dimension::{Dimension, Ix1, Ix1Dimension, Ix2, Ix2Dimension, IxDyn, IxDynDimension, Reverse, ReverseDimension};
-use dimension::{RowFault, RowFaultDebug, RowFaultPartialEq};
-use dimension::{default_strides, fortran_strides, max_abs_offset_check_overflow, size_of_shape_checked, strides_non_negative};
+use dimension::Dimension;
+use dimension::Ix1;
+use dimension::Ix1Dimension;
+use dimension::Ix2;
+use dimension::Ix2Dimension;
+use dimension::IxDyn;
+use dimension::IxDynDimension;
+use dimension::Reverse;
+use dimension::ReverseDimension;
+use dimension::RowFault;
+use dimension::RowFaultDebug;
+use dimension::RowFaultPartialEq;
+use dimension::default_strides;
+use dimension::fortran_strides;
+use dimension::max_abs_offset_check_overflow;
+use dimension::size_of_shape_checked;
+use dimension::strides_non_negative;
 use std::test::*;
 
 const MOST: usize = 9_223_372_036_854_775_807;
@@ -42,19 +56,34 @@ fn nine_words_are_no_row() -> Result<(), Fail> {
 fn sizes_and_their_limit() -> Result<(), Fail> {
     check_eq(size_of_shape_checked(&IxDyn::new(&[2, 0, 3])?), Ok(0))?;
     check_eq(size_of_shape_checked(&IxDyn::new(&[])?), Ok(1))?;
-    check_eq(size_of_shape_checked(&IxDyn::new(&[1 << 40, 1 << 40, 0])?), Err(RowFault::Overflow))?;
+    check_eq(
+        size_of_shape_checked(&IxDyn::new(&[1 << 40, 1 << 40, 0])?),
+        Err(RowFault::Overflow),
+    )?;
     check_eq(size_of_shape_checked(&Ix1(MOST)), Ok(MOST))?;
-    check_eq(size_of_shape_checked(&Ix1(MOST + 1)), Err(RowFault::Overflow))?;
-    check_eq(size_of_shape_checked(&Ix2(usize::MAX, 0)), Err(RowFault::Overflow))
+    check_eq(
+        size_of_shape_checked(&Ix1(MOST + 1)),
+        Err(RowFault::Overflow),
+    )?;
+    check_eq(
+        size_of_shape_checked(&Ix2(usize::MAX, 0)),
+        Err(RowFault::Overflow),
+    )
 }
 
 #[test]
 fn strides_of_both_orders() -> Result<(), Fail> {
     let shape = IxDyn::new(&[2, 3, 4])?;
     let row = default_strides(&shape)?;
-    check_eq((row.get(0), row.get(1), row.get(2)), (Some(12), Some(4), Some(1)))?;
+    check_eq(
+        (row.get(0), row.get(1), row.get(2)),
+        (Some(12), Some(4), Some(1)),
+    )?;
     let column = fortran_strides(&shape)?;
-    check_eq((column.get(0), column.get(1), column.get(2)), (Some(1), Some(2), Some(6)))?;
+    check_eq(
+        (column.get(0), column.get(1), column.get(2)),
+        (Some(1), Some(2), Some(6)),
+    )?;
     let empty = default_strides(&Ix2(0, 3))?;
     check_eq((empty.0, empty.1), (0, 0))?;
     check(default_strides(&Ix2(1 << 40, 1 << 40)).is_err())
@@ -62,13 +91,37 @@ fn strides_of_both_orders() -> Result<(), Fail> {
 
 #[test]
 fn reach_and_its_limits() -> Result<(), Fail> {
-    check_eq(max_abs_offset_check_overflow(8, &Ix2(2, 3), &Ix2(3, 2)), Ok(7))?;
-    check_eq(max_abs_offset_check_overflow(8, &Ix2(2, 3), &Ix1(1)), Err(RowFault::IncompatibleLayout))?;
-    check_eq(max_abs_offset_check_overflow(1, &Ix1(2), &Ix1(MOST)), Ok(MOST))?;
-    check_eq(max_abs_offset_check_overflow(2, &Ix1(2), &Ix1(MOST)), Err(RowFault::Overflow))?;
-    check_eq(max_abs_offset_check_overflow(1, &Ix1(2), &Ix1(MOST + 1)), Err(RowFault::Overflow))?;
-    check_eq(max_abs_offset_check_overflow(1, &Ix1(2), &Ix1(usize::MAX)), Ok(1))?;
-    check_eq(max_abs_offset_check_overflow(1, &Ix1(1), &Ix1(MOST + 1)), Ok(0))?;
+    check_eq(
+        max_abs_offset_check_overflow(8, &Ix2(2, 3), &Ix2(3, 2)),
+        Ok(7),
+    )?;
+    check_eq(
+        max_abs_offset_check_overflow(8, &Ix2(2, 3), &Ix1(1)),
+        Err(RowFault::IncompatibleLayout),
+    )?;
+    check_eq(
+        max_abs_offset_check_overflow(1, &Ix1(2), &Ix1(MOST)),
+        Ok(MOST),
+    )?;
+    check_eq(
+        max_abs_offset_check_overflow(2, &Ix1(2), &Ix1(MOST)),
+        Err(RowFault::Overflow),
+    )?;
+    check_eq(
+        max_abs_offset_check_overflow(1, &Ix1(2), &Ix1(MOST + 1)),
+        Err(RowFault::Overflow),
+    )?;
+    check_eq(
+        max_abs_offset_check_overflow(1, &Ix1(2), &Ix1(usize::MAX)),
+        Ok(1),
+    )?;
+    check_eq(
+        max_abs_offset_check_overflow(1, &Ix1(1), &Ix1(MOST + 1)),
+        Ok(0),
+    )?;
     check_eq(strides_non_negative(&Ix2(1, MOST)), Ok(()))?;
-    check_eq(strides_non_negative(&Ix2(1, MOST + 1)), Err(RowFault::Unsupported))
+    check_eq(
+        strides_non_negative(&Ix2(1, MOST + 1)),
+        Err(RowFault::Unsupported),
+    )
 }

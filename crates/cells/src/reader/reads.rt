@@ -9,7 +9,10 @@ ghost use Rattle.grid.specs.declared.error.GridCall.the-variants.{Read as Readi
 ghost use Rattle.grid.specs.Errors.{answered, calling};
 ghost use Rattle.grid.specs.Layouts.{seen};
 use super::Reader;
-use grid::{Cause, GridCall, GridFault, Layout};
+use grid::Cause;
+use grid::GridCall;
+use grid::GridFault;
+use grid::Layout;
 
 /// The value at a tuple of a grid over these cells.
 fn read_at<T: Copy>(cells: &[T], layout: &Layout, index: &[usize]) -> Option<T>
@@ -29,7 +32,10 @@ impl<'a, T: Copy> Reader<'a, T> {
         ensures cells { λ r. ⌜ now (r .cells) ≡ [] ⌝ }
         ensures layout { λ r. ⌜ seen (r .layout) ≡ fresh 0 (0 ∷ []) (pos 0 ∷ []) ⌝ }
     {
-        Reader { cells: &[], layout: Layout::blank() }
+        Reader {
+            cells: &[],
+            layout: Layout::blank(),
+        }
     }
 
     /// Reads these cells from now on; another count of cells than the layout's is refused, and nothing changes.
@@ -38,9 +44,15 @@ impl<'a, T: Copy> Reader<'a, T> {
         ensures after { λ r. ⌜ Cases r (λ _. (now (now (self .exit) .cells) ≡ now (cells .entry)) × (now (self .exit) .layout ≡ now (layout .entry))) (λ _. now (self .exit) ≡ now (self .entry)) ⌝ }
     {
         if cells.len() != layout.cell_count() {
-            return Err(GridFault { cause: Cause::OutOfBounds, call: GridCall::Read });
+            return Err(GridFault {
+                cause: Cause::OutOfBounds,
+                call: GridCall::Read,
+            });
         }
-        *self = Reader { cells, layout: *layout };
+        *self = Reader {
+            cells,
+            layout: *layout,
+        };
         Ok(())
     }
 

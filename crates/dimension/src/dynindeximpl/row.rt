@@ -21,7 +21,10 @@ impl IxDyn {
         for place in 0..list.len() {
             cells[place] = list[place];
         }
-        Ok(IxDyn { cells, count: list.len() })
+        Ok(IxDyn {
+            cells,
+            count: list.len(),
+        })
     }
 
     /// A row of `count` zeros, of which there are at most eight.
@@ -31,7 +34,10 @@ impl IxDyn {
         if count > 8 {
             return Err(RowFault::RankLimit);
         }
-        Ok(IxDyn { cells: [0; 8], count })
+        Ok(IxDyn {
+            cells: [0; 8],
+            count,
+        })
     }
 
     /// The words of any row, as a counted row.
@@ -63,7 +69,11 @@ pub impl Dimension for IxDyn as IxDynDimension {
     }
 
     fn get(&self, place: usize) -> Option<usize> {
-        if place < self.count { Some(self.cells[place]) } else { None }
+        if place < self.count {
+            Some(self.cells[place])
+        } else {
+            None
+        }
     }
 
     fn set(&mut self, place: usize, word: usize) -> bool {

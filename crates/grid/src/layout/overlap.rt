@@ -6,7 +6,9 @@ ghost use lib.ListN.{length};
 ghost use Rattle.laws.specs.Strides.{signed};
 ghost use Rattle.laws.specs.Lengths.{someZero};
 ghost use Rattle.laws.specs.Opening.{span, spanOthers, crowded, overlaps};
-use dimension::{Dimension, magnitude, word_at};
+use dimension::Dimension;
+use dimension::magnitude;
+use dimension::word_at;
 
 /// Whether some length is 0.
 pub(super) fn is_empty<D: Dimension>(dim: &D) -> bool
@@ -28,7 +30,11 @@ fn axis_share(left_out: bool, length: usize, step: usize, most: usize) -> usize
     if left_out {
         return 0;
     }
-    if step <= most { length.saturating_sub(1) * step } else { 0 }
+    if step <= most {
+        length.saturating_sub(1) * step
+    } else {
+        0
+    }
 }
 
 /// The reach of the axes other than this one whose magnitude is at most `most`.

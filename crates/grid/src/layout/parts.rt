@@ -5,7 +5,10 @@ ghost use Rattle.laws.specs.Filling.{cellAt};
 ghost use Rattle.dimension.specs.Rows.{listed};
 ghost use Rattle.grid.specs.Layouts.{seen};
 use super::Layout;
-use dimension::{IxDyn, IxDynDimension, stride_offset, word_at};
+use dimension::IxDyn;
+use dimension::IxDynDimension;
+use dimension::stride_offset;
+use dimension::word_at;
 
 impl Layout {
     /// How many cells are lent to the grid.

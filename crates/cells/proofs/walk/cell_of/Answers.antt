@@ -29,9 +29,9 @@ loop-axis-again c =
     let row : length ws ≡ length (s .strides) = sym (length-signed ws) ∙ ap length (c .strides-strides .ensures) in
     let here : i < length ws = omega (arith, sound l .paired) in
     let read : toZ w64 (c .word-at-stride .result) ≡ getD (s .strides) i (pos 0) =
-      stride-read ws i (c .word-at-stride .result) here (c .word-at-stride .ensures) ∙ ap (λ zs. getD zs i (pos 0)) (c .strides-strides .ensures) in
+    stride-read ws i (c .word-at-stride .result) here (c .word-at-stride .ensures) ∙ ap (λ zs. getD zs i (pos 0)) (c .strides-strides .ensures) in
     cell-step s (sound l) ix i (c .loop-axis .at) (c .loop-axis .inv) len (omega arith) (within-at ix (s .lens) i (c .pre) (omega arith))
-      (c .word-at .result) (c .word-at-stride .result) (c .stride-offset-at .result) (c .word-at .ensures) read (c .stride-offset-at .ensures .law)
+    (c .word-at .result) (c .word-at-stride .result) (c .stride-offset-at .result) (c .word-at .ensures) read (c .stride-offset-at .ensures .law)
 
 pub returns : need.returns
 returns c =

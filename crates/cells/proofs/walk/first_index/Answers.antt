@@ -22,10 +22,10 @@ loop-axis-again g c =
     let ix = g .D·Dimension .words (c .loop-axis .index) in
     let i = c .loop-axis .axis in
     let inv = c .loop-axis .inv in
-    let after : g .D·Dimension .words (c .set .last .self) ≡ set ix i 0 = c .set .ensures .after in
-    ( ap (take (i + 1)) after ∙ zeros-more ix i (inv .0) (omega (arith, inv .1))
-    , ap length after ∙ length-set ix i 0 ∙ inv .1
-    , below-more (λ j. 0 < getD ls j 0) i (inv .2) (omega arith)
+    let after : g .D·Dimension .words (c .set .last .self) ≡ set ix i 0 = c .set .ensures .after in (
+      ap (take (i + 1)) after ∙ zeros-more ix i (inv .0) (omega (arith, inv .1)),
+      ap length after ∙ length-set ix i 0 ∙ inv .1,
+      below-more (λ j. 0 < getD ls j 0) i (inv .2) (omega arith),
     )
 
 pub returns : need.returns

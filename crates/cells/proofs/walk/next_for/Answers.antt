@@ -33,9 +33,9 @@ loop-axis-again g c =
     let e : c .loop-axis .axis ≡ j + 1 = omega arith in
     let inv = subst (λ m. place ix ls + product (drop m ls) ≡ place from ls + 1) e (c .loop-axis .inv .1) in
     let full : getD ix j 0 + 1 ≡ getD ls j 0 = omega arith in
-    let is : set ix j 0 ≡ g .D·Dimension .words (c .set .last .self) = sym (c .set .ensures .after) in
-    ( subst (λ (s : List ℕ). Within s ls) is (within-set ix ls j 0 w (omega arith))
-    , subst (λ (s : List ℕ). place s ls + product (drop j ls) ≡ place from ls + 1) is (carry ix ls j _ w (omega arith) inv full)
+    let is : set ix j 0 ≡ g .D·Dimension .words (c .set .last .self) = sym (c .set .ensures .after) in (
+      subst (λ (s : List ℕ). Within s ls) is (within-set ix ls j 0 w (omega arith)),
+      subst (λ (s : List ℕ). place s ls + product (drop j ls) ≡ place from ls + 1) is (carry ix ls j _ w (omega arith) inv full),
     )
 
 pub returns-else-next-length : need.returns-else-next-length
@@ -50,9 +50,9 @@ returns-else-next-length g c =
     let inv = subst (λ m. place ix ls + product (drop m ls) ≡ place from ls + 1) e (c .loop-axis .inv .1) in
     let less : getD ix j 0 + 1 < getD ls j 0 = omega (arith, within-at ix ls j w h) in
     let v : getD ix j 0 + 1 ≡ c .word-at-next .result + 1 = omega arith in
-    let is : set ix j (getD ix j 0 + 1) ≡ g .D·Dimension .words (c .set-else-next-length .last .self) = ap (set ix j) v ∙ sym (c .set-else-next-length .ensures .after) in
-    ( subst (λ (s : List ℕ). Within s ls) is (within-set ix ls j (getD ix j 0 + 1) w less)
-    , ap (λ (s : List ℕ). place s ls) (sym is) ∙ stop ix ls j (place from ls + 1) w h inv
+    let is : set ix j (getD ix j 0 + 1) ≡ g .D·Dimension .words (c .set-else-next-length .last .self) = ap (set ix j) v ∙ sym (c .set-else-next-length .ensures .after) in (
+      subst (λ (s : List ℕ). Within s ls) is (within-set ix ls j (getD ix j 0 + 1) w less),
+      ap (λ (s : List ℕ). place s ls) (sym is) ∙ stop ix ls j (place from ls + 1) w h inv,
     )
 
 pub returns : need.returns

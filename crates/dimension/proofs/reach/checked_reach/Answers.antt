@@ -20,7 +20,7 @@ returns-in-rest g c =
     let over = limited-none (c .loop-place .far + (c .word-at-length .result - 1) * c .magnitude-size .result) (c .in-rest .ensures tt) in
     let more = reach-word natAbs ls ws i (omega arith) (c .pre) in
     let axis : (c .word-at-length .result - 1) * c .magnitude-size .result ≡ (getD ls i 0 - 1) * natAbs (toZ w64 (getD ws i 0)) =
-        ap (λ n. (n - 1) * c .magnitude-size .result) (c .word-at-length .ensures) ∙ ap (λ n. (getD ls i 0 - 1) * n) (c .magnitude-size .ensures ∙ ap (λ w. natAbs (toZ w64 w)) (c .word-at .ensures)) in
+    ap (λ n. (n - 1) * c .magnitude-size .result) (c .word-at-length .ensures) ∙ ap (λ n. (getD ls i 0 - 1) * n) (c .magnitude-size .ensures ∙ ap (λ w. natAbs (toZ w64 w)) (c .word-at .ensures)) in
     limited-over (span ls (signed ws)) (omega (arith, c .loop-place .inv .0))
 
 pub loop-place-again : need.loop-place-again
@@ -31,7 +31,7 @@ loop-place-again g c =
     let is = limited-some (c .loop-place .far + (c .word-at-length .result - 1) * c .magnitude-size .result) (c .in-Some .next) (c .in-Some .ensures tt) in
     let more = reach-word natAbs ls ws i (omega arith) (c .pre) in
     let axis : (c .word-at-length .result - 1) * c .magnitude-size .result ≡ (getD ls i 0 - 1) * natAbs (toZ w64 (getD ws i 0)) =
-        ap (λ n. (n - 1) * c .magnitude-size .result) (c .word-at-length .ensures) ∙ ap (λ n. (getD ls i 0 - 1) * n) (c .magnitude-size .ensures ∙ ap (λ w. natAbs (toZ w64 w)) (c .word-at .ensures)) in
+    ap (λ n. (n - 1) * c .magnitude-size .result) (c .word-at-length .ensures) ∙ ap (λ n. (getD ls i 0 - 1) * n) (c .magnitude-size .ensures ∙ ap (λ w. natAbs (toZ w64 w)) (c .word-at .ensures)) in
     (omega (arith, c .loop-place .inv .0), omega arith)
 
 pub returns : need.returns

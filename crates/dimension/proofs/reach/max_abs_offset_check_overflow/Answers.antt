@@ -71,7 +71,7 @@ returns-then-not-product-within g c =
     let is = limited-some (span ls (signed ws)) (c .in-Some .far) (c .in-Some .ensures tt) in
     let past = leb-false (c .in-Some .far * c .args .size) most (sym (c .if-not-product-within .ensures tt)) in
     let bytes : ltb most (span ls (signed ws) * c .args .size) ≡ true =
-      lt-ltb _ _ (subst (λ (n : ℕ). most < n * c .args .size) (is .0) past) in
+    lt-ltb _ _ (subst (λ (n : ℕ). most < n * c .args .size) (is .0) past) in
     too-far (length ls) (length (signed ws)) (nonzeros ls) (span ls (signed ws)) (c .args .size) same (or-right _ _ bytes)
 
 pub returns : need.returns
@@ -85,5 +85,5 @@ returns g c =
     let far : ltb most (span ls (signed ws)) ≡ false = le-ltb _ _ (is .1) in
     let fit = leb-true (c .in-Some .far * c .args .size) most (sym (c .if-not-product-within .ensures tt)) in
     let bytes : ltb most (span ls (signed ws) * c .args .size) ≡ false =
-      le-ltb _ _ (subst (λ (n : ℕ). n * c .args .size ≤ most) (is .0) fit) in
+    le-ltb _ _ (subst (λ (n : ℕ). n * c .args .size ≤ most) (is .0) fit) in
     rw (same, size, far, bytes) (ap (λ (n : ℕ). Ok n) (is .0))

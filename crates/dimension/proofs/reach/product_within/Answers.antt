@@ -10,9 +10,9 @@ use Rattle.dimension.proofs.reach.product_within.Needs as need
 
 same : (a b m : ℕ) → 0 < b → leb a (m / b) ≡ leb (a * b) m
 same a b m p = elim (cases-lt (m / b) a) [
-    inl over ↦ lt-leb a (m / b) over ∙ sym (lt-leb (a * b) m (past a b m p over))
+  | inl over ↦ lt-leb a (m / b) over ∙ sym (lt-leb (a * b) m (past a b m p over))
   | inr under ↦ le-leb a (m / b) under ∙ sym (le-leb (a * b) m (within a b m p under))
-  ]
+]
 
 pub returns-then-right-eq0 : need.returns-then-right-eq0
 returns-then-right-eq0 c =

@@ -10,5 +10,5 @@ use Rattle.dimension.proofs.reach.stride_offset.Needs as need
 pub returns : need.returns
 returns c =
     let is : (c .args .from + (c .args .index * c .args .stride) % 2 ^ 64) % 2 ^ 64 ≡ onward (c .args .from) (c .args .index) (c .args .stride) =
-      add-mod-mod (c .args .from) (c .args .index * c .args .stride) (2 ^ 64) in
+    add-mod-mod (c .args .from) (c .args .index * c .args .stride) (2 ^ 64) in
     record { answer = is; law = λ h. ap pos is ∙ wraps (c .args .from) (c .args .index) (c .args .stride) (omega arith) h }

@@ -42,9 +42,9 @@ loop-place-again g c =
     let i = c .loop-place .place in
     let by = c .counted-length-by .result in
     let is : by ≡ nonzero (getD ws i 0) = c .counted-length-by .ensures ∙ ap nonzero (c .word-at .ensures) in
-    let pos : 0 < by = subst (λ (n : ℕ). 0 < n) (sym is) (nonzero-pos (getD ws i 0)) in
-    ( ap (λ n. c .loop-place .whole * n * nonzeros (drop (i + 1) ws)) is ∙ nonzeros-more ws i (c .loop-place .whole) (nonzeros ws) (omega arith) (c .loop-place .inv .0)
-    , within (c .loop-place .whole) by (c .args .limit) pos (c .if-whole-limit .left)
+    let pos : 0 < by = subst (λ (n : ℕ). 0 < n) (sym is) (nonzero-pos (getD ws i 0)) in (
+      ap (λ n. c .loop-place .whole * n * nonzeros (drop (i + 1) ws)) is ∙ nonzeros-more ws i (c .loop-place .whole) (nonzeros ws) (omega arith) (c .loop-place .inv .0),
+      within (c .loop-place .whole) by (c .args .limit) pos (c .if-whole-limit .left),
     )
 
 pub returns : need.returns

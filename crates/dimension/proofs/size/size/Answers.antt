@@ -19,9 +19,9 @@ mul-size g c =
 pub loop-place-again : need.loop-place-again
 loop-place-again g c =
     let ws = g .D·Dimension .words (c .args .dim .now) in
-    let i = c .loop-place .place in
-    ( ap (λ n. c .loop-place .size * n * product (drop (i + 1) ws)) (c .word-at-size .ensures) ∙ product-more ws i (c .loop-place .size) (product ws) (omega arith) (c .loop-place .inv .0)
-    , part-more ws i (c .loop-place .size) (c .word-at-size .result) (nonzeros ws) (omega arith) (c .word-at-size .ensures) (c .loop-place .inv .1)
+    let i = c .loop-place .place in (
+      ap (λ n. c .loop-place .size * n * product (drop (i + 1) ws)) (c .word-at-size .ensures) ∙ product-more ws i (c .loop-place .size) (product ws) (omega arith) (c .loop-place .inv .0),
+      part-more ws i (c .loop-place .size) (c .word-at-size .result) (nonzeros ws) (omega arith) (c .word-at-size .ensures) (c .loop-place .inv .1),
     )
 
 pub returns : need.returns

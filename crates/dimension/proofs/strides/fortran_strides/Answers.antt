@@ -23,7 +23,7 @@ returns-in-Break-strides g c =
     let p = err-from-errBy (c .from-residual .result) (c .from-residual .ensures .1) in
     let fault = rowFault (c .in-Break-strides .field-0 .0) in
     let told : Err fault ≡ refuse (ltb most (nonzeros ws)) (inRows 6) (Ok (rowMajor (reverse ws))) =
-      c .in-Break-strides .ensures tt ∙ ap (λ n. refuse (ltb most n) (inRows 6) (Ok (rowMajor (reverse ws)))) (nonzeros-reverse ws) in
+    c .in-Break-strides .ensures tt ∙ ap (λ n. refuse (ltb most n) (inRows 6) (Ok (rowMajor (reverse ws)))) (nonzeros-reverse ws) in
     rw (p .1, p .2) (refused (ltb most (nonzeros ws)) (inRows 6) fault (rowMajor (reverse ws)) (Ok (columnMajor ws)) told)
 
 pub returns : need.returns
@@ -31,8 +31,8 @@ returns g c =
     let ws = g .D·Dimension .words (c .args .dim .now) in
     let made = g .D·Dimension .words (c .in-Continue-strides .field-0 .0) in
     let told : Ok (reverse made) ≡ refuse (ltb most (nonzeros ws)) (inRows 6) (Ok (rowMajor (reverse ws))) =
-      c .in-Continue-strides .ensures tt ∙ ap (λ n. refuse (ltb most n) (inRows 6) (Ok (rowMajor (reverse ws)))) (nonzeros-reverse ws) in
+    c .in-Continue-strides .ensures tt ∙ ap (λ n. refuse (ltb most n) (inRows 6) (Ok (rowMajor (reverse ws)))) (nonzeros-reverse ws) in
     let fits = passed (ltb most (nonzeros ws)) (inRows 6) (reverse made) (rowMajor (reverse ws)) told in
     let is : made ≡ columnMajor ws =
-      sym (reverse-reverse made) ∙ ap reverse (passed-with (ltb most (nonzeros ws)) (inRows 6) (reverse made) (rowMajor (reverse ws)) told) ∙ other-order ws in
+    sym (reverse-reverse made) ∙ ap reverse (passed-with (ltb most (nonzeros ws)) (inRows 6) (reverse made) (rowMajor (reverse ws)) told) ∙ other-order ws in
     rw fits (ap (λ (xs : List ℕ). Ok xs) is)

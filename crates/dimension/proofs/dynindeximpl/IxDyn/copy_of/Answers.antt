@@ -16,9 +16,9 @@ loop-place-again g c =
     let l : i < length ws = omega arith in
     let few : length ws ≤ 8 = g .D·Dimension .owed (c .args .row .now) .few in
     let m : i < length (c .loop-place .cells) = omega (arith, c .loop-place .inv .1) in
-    let w = c .word-at .result in
-    ( take-more-set (c .loop-place .cells) i w m ∙ ap (λ r. r ++ w ∷ []) (c .loop-place .inv .0) ∙ ap (λ n. take i ws ++ n ∷ []) (c .word-at .ensures) ∙ sym (take-more ws i 0 l)
-    , length-set (c .loop-place .cells) i w ∙ c .loop-place .inv .1
+    let w = c .word-at .result in (
+      take-more-set (c .loop-place .cells) i w m ∙ ap (λ r. r ++ w ∷ []) (c .loop-place .inv .0) ∙ ap (λ n. take i ws ++ n ∷ []) (c .word-at .ensures) ∙ sym (take-more ws i 0 l),
+      length-set (c .loop-place .cells) i w ∙ c .loop-place .inv .1,
     )
 
 pub returns : need.returns

@@ -17,9 +17,9 @@ loop-place-again c =
     let i = c .loop-place .place in
     let l : i < length (c .args .list .now) = omega arith in
     let m : i < length (c .loop-place .cells) = omega (arith, c .loop-place .inv .1) in
-    let w = getD (c .args .list .now) i 0 in
-    ( take-more-set (c .loop-place .cells) i w m ∙ ap (λ r. r ++ w ∷ []) (c .loop-place .inv .0) ∙ sym (take-more (c .args .list .now) i 0 l)
-    , length-set (c .loop-place .cells) i w ∙ c .loop-place .inv .1
+    let w = getD (c .args .list .now) i 0 in (
+      take-more-set (c .loop-place .cells) i w m ∙ ap (λ r. r ++ w ∷ []) (c .loop-place .inv .0) ∙ sym (take-more (c .args .list .now) i 0 l),
+      length-set (c .loop-place .cells) i w ∙ c .loop-place .inv .1,
     )
 
 pub returns : need.returns
@@ -28,5 +28,5 @@ returns c =
     let few : ltb 8 (length ws) ≡ false = le-ltb 8 (length ws) (omega arith) in
     let end : c .loop-place .place ≡ length ws = omega arith in
     let made : take (length ws) (c .loop-place .cells) ≡ ws =
-      ap (λ n. take n (c .loop-place .cells)) (sym end) ∙ c .loop-place .inv .0 ∙ take-all (c .loop-place .place) ws (omega arith) in
+    ap (λ n. take n (c .loop-place .cells)) (sym end) ∙ c .loop-place .inv .0 ∙ take-all (c .loop-place .place) ws (omega arith) in
     rw few (ap (λ (xs : List ℕ). Ok xs) made)

@@ -15,7 +15,7 @@ pub ghost-result : need.ghost-result
 ghost-result c =
     let row = c .copy-of-row .result in
     kept 0 0 (listed row) (signed (listed row))
-      (subst (λ (xs : List ℕ). Sound (fresh 0 xs (signed xs))) (sym (c .copy-of-row .ensures)) (ordered-sound-row 0 (0 ∷ []) (lit≤ tt) (lit≤ tt) (lit≤ tt) (lit≤ tt)))
+    (subst (λ (xs : List ℕ). Sound (fresh 0 xs (signed xs))) (sym (c .copy-of-row .ensures)) (ordered-sound-row 0 (0 ∷ []) (lit≤ tt) (lit≤ tt) (lit≤ tt) (lit≤ tt)))
 
 pub returns : need.returns
 returns c = ap (λ (xs : List ℕ). fresh 0 xs (signed xs)) (c .copy-of-row .ensures)

@@ -40,9 +40,9 @@ loop-place-again c =
     let i = c .loop-place .place in
     let long = length-signed (listed (s .strides)) in
     let here : getD ix i 0 < getD ls i 0 = omega arith in
-    let read = stride-read (listed (s .strides)) i (c .word-at-stride .result) (omega (arith, s .paired)) (c .word-at-stride .ensures) in
-    ( cell-step (seen s) (sound s) ix i (c .loop-place .at) (c .loop-place .inv .0) (omega arith) (omega arith) here (getD ix i 0) (c .word-at-stride .result) (c .stride-offset-at .result) refl read (c .stride-offset-at .ensures .law)
-    , below-more (λ k. getD ix k 0 < getD ls k 0) i (c .loop-place .inv .1) here
+    let read = stride-read (listed (s .strides)) i (c .word-at-stride .result) (omega (arith, s .paired)) (c .word-at-stride .ensures) in (
+      cell-step (seen s) (sound s) ix i (c .loop-place .at) (c .loop-place .inv .0) (omega arith) (omega arith) here (getD ix i 0) (c .word-at-stride .result) (c .stride-offset-at .result) refl read (c .stride-offset-at .ensures .law),
+      below-more (λ k. getD ix k 0 < getD ls k 0) i (c .loop-place .inv .1) here,
     )
 
 pub returns : need.returns

@@ -23,7 +23,7 @@ dim-stride-overlap-requires g c κs =
     let zs = signed ws in
     let rank = went-on (λ u. u) Open (not (eqb (length ls) (length zs))) (inRows 2) tt (c .check-rank .result) (c .in-Continue-at-call-2 .field-0) (c .in-Continue-at-call-2 .ensures tt) (c .check-rank .ensures) .0 in
     let told : rows.answered (λ n. n) (c .max-abs-offset-check-overflow .result) ≡ refuse (overflows (c .args .size) ls zs) (inRows 6) (Ok (span ls zs)) =
-      c .max-abs-offset-check-overflow .ensures ∙ ap (λ (b : Bool). refuse b (inRows 2) (refuse (overflows (c .args .size) ls zs) (inRows 6) (Ok (span ls zs)))) rank in
+    c .max-abs-offset-check-overflow .ensures ∙ ap (λ (b : Bool). refuse b (inRows 2) (refuse (overflows (c .args .size) ls zs) (inRows 6) (Ok (span ls zs)))) rank in
     let fits = went-on (λ n. n) Open (overflows (c .args .size) ls zs) (inRows 6) (span ls zs) (c .max-abs-offset-check-overflow .result) (c .in-Continue-far .far) (c .in-Continue-far .ensures tt) told .0 in
     let far = or-parts (ltb most (span ls zs)) _ (or-parts (ltb most (nonzeros ls)) _ fits .1) .0 in
     record {

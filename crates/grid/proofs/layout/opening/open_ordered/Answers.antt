@@ -31,11 +31,11 @@ ghost-result g c =
     let small = went-on (λ u. u) Open (ltb limit (nonzeros ls)) (inRows 12) tt (c .check-lengths .result) (c .in-Continue-at-call-2 .field-0) (c .in-Continue-at-call-2 .ensures tt) (c .check-lengths .ensures) .0 in
     let row = went-on listed Open (ltb most (nonzeros (listed (c .copy-of-lens .result)))) (inRows 6) (inOrder (c .args .order) (listed (c .copy-of-lens .result))) (c .strides-in .result) (c .in-Continue-strides .strides) (c .in-Continue-strides .ensures tt) (c .strides-in .ensures) .1 in
     let zs : signed (listed (c .in-Continue-strides .strides)) ≡ map pos (inOrder (c .args .order) ls) =
-      ap signed (row ∙ ap (inOrder (c .args .order)) (c .copy-of-lens .ensures)) ∙ signed-order (c .args .order) ls small in
+    ap signed (row ∙ ap (inOrder (c .args .order)) (c .copy-of-lens .ensures)) ∙ signed-order (c .args .order) ls small in
     let sound = ordered-sound (c .args .order) cells ls few narrow small (omega arith) in
     kept cells 0 (listed (c .copy-of-lens .result)) (signed (listed (c .in-Continue-strides .strides)))
-      (subst (λ (xs : List ℕ). Sound (fresh cells xs (signed (listed (c .in-Continue-strides .strides))))) (sym (c .copy-of-lens .ensures))
-        (subst (λ (ys : List ℤ). Sound (fresh cells ls ys)) (sym zs) sound))
+    (subst (λ (xs : List ℕ). Sound (fresh cells xs (signed (listed (c .in-Continue-strides .strides))))) (sym (c .copy-of-lens .ensures))
+    (subst (λ (ys : List ℤ). Sound (fresh cells ls ys)) (sym zs) sound))
 
 pub returns : need.returns
 returns g c =
@@ -49,5 +49,5 @@ returns g c =
     let enough : ltb cells (product ls) ≡ false = le-ltb _ _ (omega arith) in
     let row = went-on listed Open (ltb most (nonzeros (listed (c .copy-of-lens .result)))) (inRows 6) (inOrder (c .args .order) (listed (c .copy-of-lens .result))) (c .strides-in .result) (c .in-Continue-strides .strides) (c .in-Continue-strides .ensures tt) (c .strides-in .ensures) .1 in
     let zs : signed (listed (c .in-Continue-strides .strides)) ≡ map pos (inOrder (c .args .order) ls) =
-      ap signed (row ∙ ap (inOrder (c .args .order)) (c .copy-of-lens .ensures)) ∙ signed-order (c .args .order) ls small in
+    ap signed (row ∙ ap (inOrder (c .args .order)) (c .copy-of-lens .ensures)) ∙ signed-order (c .args .order) ls small in
     rw (narrow, fits, small, enough) (ap (λ (s : Seen). Ok s) (ap₂ (fresh cells) (c .copy-of-lens .ensures) zs))

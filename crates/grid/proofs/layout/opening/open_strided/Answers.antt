@@ -22,8 +22,8 @@ ghost-result g c =
     let few : length ls ≤ 8 = g .D·Dimension .owed (c .args .dim .now) .few in
     let opened = called Open (fresh cells ls zs) (strided cells (c .args .size) ls zs) (c .in-Continue-can-index-slice .ensures tt) in
     kept cells 0 (listed (c .copy-of .result)) (signed (listed (c .copy-of-2 .result)))
-      (subst (λ (xs : List ℕ). Sound (fresh cells xs (signed (listed (c .copy-of-2 .result))))) (sym (c .copy-of .ensures))
-        (subst (λ (ys : List ℤ). Sound (fresh cells ls ys)) (sym (ap signed (c .copy-of-2 .ensures))) (strided-opened cells (c .args .size) ls zs (fresh cells ls zs) few opened)))
+    (subst (λ (xs : List ℕ). Sound (fresh cells xs (signed (listed (c .copy-of-2 .result))))) (sym (c .copy-of .ensures))
+    (subst (λ (ys : List ℤ). Sound (fresh cells ls ys)) (sym (ap signed (c .copy-of-2 .ensures))) (strided-opened cells (c .args .size) ls zs (fresh cells ls zs) few opened)))
 
 pub returns : need.returns
 returns g c =

@@ -22,5 +22,5 @@ returns g c =
     let within : k < length ls = getD-within ls k (omega arith) in
     let long : ltb 1 (getD ls k 0) ≡ true = lt-ltb _ _ (omega arith) in
     let size : c .magnitude-step .result ≡ natAbs (getD (signed ws) k (pos 0)) =
-      c .magnitude-step .ensures ∙ ap (λ w. natAbs (toZ w64 w)) (c .word-at-2 .ensures) ∙ ap natAbs (sym (signed-at ws k (omega (arith, c .pre .rank)))) in
+    c .magnitude-step .ensures ∙ ap (λ w. natAbs (toZ w64 w)) (c .word-at-2 .ensures) ∙ ap natAbs (sym (signed-at ws k (omega (arith, c .pre .rank)))) in
     rw long (ap (leb (c .magnitude-step .result)) (c .span-others .ensures) ∙ ap (λ m. leb m (spanOthers k m ls (signed ws))) size)

@@ -19,7 +19,7 @@ loop-place-holds g c =
     let k = c .args .axis in
     let zero : 0 + k ≡ k = omega arith in
     let are : partsFrom 0 k (c .args .most) ls zs ≡ spanOthers k (c .args .most) ls zs =
-      ap (λ (i : ℕ). partsFrom 0 i (c .args .most) ls zs) (sym zero) ∙ parts-are 0 k (c .args .most) ls zs in
+    ap (λ (i : ℕ). partsFrom 0 i (c .args .most) ls zs) (sym zero) ∙ parts-are 0 k (c .args .most) ls zs in
     omega arith
 
 pub axis-share-far-requires : need.axis-share-far-requires
@@ -30,9 +30,9 @@ axis-share-far-requires g c κs =
     let long = length-signed ws in
     let axis = reach-at natAbs ls (signed ws) i (omega (arith, c .pre .rank)) in
     let size : c .magnitude-step .result ≡ natAbs (getD (signed ws) i (pos 0)) =
-      c .magnitude-step .ensures ∙ ap (λ w. natAbs (toZ w64 w)) (c .word-at .ensures) ∙ ap natAbs (sym (signed-at ws i (omega (arith, c .pre .rank)))) in
+    c .magnitude-step .ensures ∙ ap (λ w. natAbs (toZ w64 w)) (c .word-at .ensures) ∙ ap natAbs (sym (signed-at ws i (omega (arith, c .pre .rank)))) in
     let is : (c .word-at-in-loop-place .result - 1) * c .magnitude-step .result ≡ (getD ls i 0 - 1) * natAbs (getD (signed ws) i (pos 0)) =
-      ap (λ n. (n - 1) * c .magnitude-step .result) (c .word-at-in-loop-place .ensures) ∙ ap (λ n. (getD ls i 0 - 1) * n) size in
+    ap (λ n. (n - 1) * c .magnitude-step .result) (c .word-at-in-loop-place .ensures) ∙ ap (λ n. (getD ls i 0 - 1) * n) size in
     omega (arith, c .pre .fits)
 
 pub add-far : need.add-far
