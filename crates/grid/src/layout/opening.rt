@@ -13,7 +13,7 @@ ghost use Rattle.laws.specs.Faults.{inRows, refuse};
 ghost use Rattle.laws.specs.Opening.{limit, someAbove, fresh, ordered, strided, opening};
 ghost use Rattle.dimension.specs.Errors.{answered as rowAnswered};
 ghost use Rattle.dimension.specs.Rows.{stridesOf};
-ghost use Rattle.grid.specs.Errors.{answered, calling};
+ghost use Rattle.grid.specs.Errors.{answered, calling, causeFault, told};
 ghost use Rattle.grid.specs.Layouts.{seen, given, inOrder};
 use super::Layout;
 use super::overlap::dim_stride_overlap;
@@ -40,6 +40,16 @@ use dimension::strides_non_negative;
 use dimension::strides_within;
 
 const LIMIT: usize = 1_048_576;
+
+/// Why opening is refused.
+fn refused(cause: Cause) -> GridFault
+    ensures { λ r. ⌜ told r ≡ record { fault = causeFault cause; call = GridCall.Open } ⌝ }
+{
+    GridFault {
+        cause,
+        call: GridCall::Open,
+    }
+}
 
 /// Refuses more cells than a grid may have.
 fn check_cells(cells: usize) -> Result<(), RowFault>
@@ -110,10 +120,7 @@ fn open_ordered<D: Dimension>(cells: usize, dim: &D, order: Order) -> Result<Lay
     let size = at_call(size_of_shape_checked(dim), GridCall::Open)?;
     at_call(check_lengths(dim), GridCall::Open)?;
     if cells < size {
-        return Err(GridFault {
-            cause: Cause::OutOfBounds,
-            call: GridCall::Open,
-        });
+        return Err(refused(Cause::OutOfBounds));
     }
     let lens = IxDyn::copy_of(dim);
     let strides = at_call(strides_in(&lens, order), GridCall::Open)?;
@@ -144,16 +151,10 @@ fn can_index_slice<D: Dimension, S: Dimension>(
     at_call(check_lengths(dim), GridCall::Open)?;
     at_call(check_strides(row), GridCall::Open)?;
     if too_few(cells, far, is_empty(dim)) {
-        return Err(GridFault {
-            cause: Cause::OutOfBounds,
-            call: GridCall::Open,
-        });
+        return Err(refused(Cause::OutOfBounds));
     }
     if dim_stride_overlap(dim, row) {
-        return Err(GridFault {
-            cause: Cause::Rows(RowFault::Unsupported),
-            call: GridCall::Open,
-        });
+        return Err(refused(Cause::Rows(RowFault::Unsupported)));
     }
     Ok(())
 }
