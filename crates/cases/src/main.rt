@@ -1,5 +1,5 @@
 // Performs the cases on standard input, wrong lines among them.
-use script::run_script;
+use session::run_script;
 use std::io;
 
 fn main(rt: LibcRuntime) -> io::Result<()> {

@@ -5,6 +5,7 @@ mod reader;
 mod walk;
 
 pub use filling::fill;
+pub use filling::fill_selection;
 pub use pay::PayLine;
 pub use pay::PayLineDebug;
 pub use pay::PayLineEq;

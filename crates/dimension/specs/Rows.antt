@@ -1,5 +1,6 @@
 -- The list of a counted row, and what making a row answers.
-use mathlib.Core.List.{List}
+use mathlib.Core.List.{List, [], _∷_, _++_}
+use mathlib.Core.Bool.{cond}
 use Prim.Native.Nat.{ℕ}
 use lib.Dec.{ltb}
 use lib.ListN.{length, take, replicate}
@@ -22,6 +23,10 @@ listed-owed x = owed-front (x .count) (x .cells) (x .few)
 -- a row of these words; 11 for more than eight
 abbrev pub counted : List ℕ → Result (List ℕ) Fault
 counted ws = refuse (ltb 8 (length ws)) (inRows 11) (Ok ws)
+
+-- a row with one word more at its end; eight words stay as they are
+abbrev pub pushed : List ℕ → ℕ → List ℕ
+pushed ws w = cond (ltb (length ws) 8) (ws ++ w ∷ []) ws
 
 -- a row of n zeros; 11 for more than eight
 abbrev pub zeros : ℕ → Result (List ℕ) Fault

@@ -3,13 +3,17 @@ use mathlib.Core.Path.{_≡_, refl, sym, ap, _∙_}
 use mathlib.Core.Bool.{Bool, true, false}
 use Prim.Native.Nat.{ℕ}
 use native.Mathlib.Omega.{arith}
+use Rattle.std.specs.declared.option.Option.{Option}
+use Rattle.std.specs.declared.option.Option.the-variants.{Some, None}
 use Rattle.std.specs.declared.result.Result.{Result}
 use Rattle.std.specs.declared.result.Result.the-variants.{Ok, Err}
-use Rattle.laws.specs.Faults.{Fault, refuse}
+use Rattle.laws.specs.Faults.{Fault, refuse, unless}
 use Rattle.laws.proofs.Faults.{passed, passed-with, refused}
 use Rattle.dimension.specs.declared.error.RowFault.{RowFault}
 use Rattle.dimension.specs.Errors.{rowFault}
 use Rattle.dimension.specs.Errors as rows
+use Rattle.selection.specs.declared.error.SliceFault.{SliceFault}
+use Rattle.selection.specs.Errors as slices
 use Rattle.grid.specs.declared.error.GridCall.{GridCall}
 use Rattle.grid.specs.declared.error.During.{During}
 use Rattle.grid.specs.Errors.{Refusal, noted, calling}
@@ -31,7 +35,17 @@ module _ {A B : Type 0} (shows : A → B) (call : GridCall) (b : Bool) (f : Faul
       ap (λ (x : During RowFault). Err (record { fault = rowFault (x .fault); call = x .call })) same
       ∙ ap (calling {A = C} call) (refused b f (rowFault g) y rest h)
 
+-- a selection's answer that was not refused
+pub took : {A B : Type 0} (shows : A → B) (call : GridCall) (q : Result B Fault) (r : Result A SliceFault) (x : A) → Ok x ≡ noted r call → slices.answered shows r ≡ q → Ok (shows x) ≡ q
+took shows call q (Ok z) x e h = let same : x ≡ z = cc in ap (λ y. Ok (shows y)) same ∙ h
+took shows call q (Err g) x e h = let z : _≡_ {A = ℕ} 0 1 = cc in absurd (omega arith)
+
 -- what a call answers where the rule gives a value
 pub called : {A : Type 0} (call : GridCall) (x : A) (r : Result A Fault) → Ok x ≡ calling call r → Ok x ≡ r
 called call x (Ok y) e = cc
 called call x (Err f) e = let z : _≡_ {A = ℕ} 0 1 = cc in absurd (omega arith)
+
+-- nothing is refused where an answer was given
+pub none-refused : {A : Type 0} (call : GridCall) (o : Option Fault) (x y : A) → Ok x ≡ calling call (unless o y) → o ≡ None
+none-refused call (Some f) x y e = let z : _≡_ {A = ℕ} 0 1 = cc in absurd (omega arith)
+none-refused call None x y e = refl

@@ -3,17 +3,21 @@ use Prim.Native.Nat.{ℕ}
 use Rattle.std.specs.declared.result.Result.{Result}
 use Rattle.std.specs.declared.result.Result.the-variants.{Ok, Err}
 use Rattle.laws.specs.Faults.{Fault, inGrid}
+use Rattle.laws.specs.Collapsing.{outsideAxis}
 use Rattle.dimension.specs.Errors.{rowFault}
+use Rattle.selection.specs.Errors.{sliceFaultOf}
 use Rattle.grid.specs.declared.error.Cause.{Cause}
-use Rattle.grid.specs.declared.error.Cause.the-variants.{Rows, OutOfBounds}
+use Rattle.grid.specs.declared.error.Cause.the-variants.{Rows, Selection, OutOfBounds, Outside}
 use Rattle.grid.specs.declared.error.GridCall.{GridCall}
 use Rattle.grid.specs.declared.error.GridFault.{GridFault}
 use Rattle.grid.specs.declared.error.During.{During}
 
--- a fault of the rows stays what it is; 4 is the grid's own
+-- a fault of the rows or of a selection stays what it is; 4, and 14 at an axis, are the grid's own
 abbrev pub causeFault : Cause → Fault
 causeFault (Rows f) = rowFault f
+causeFault (Selection f) = sliceFaultOf f
 causeFault OutOfBounds = inGrid 4
+causeFault (Outside axis) = outsideAxis axis
 
 -- a fault beside the call that was refused
 pub record Refusal : Type 0 where

@@ -1,2 +1,4 @@
 pub mod Errors
 pub mod Layouts
+pub mod Slicing
+pub mod Calls

@@ -1,12 +1,16 @@
 ghost use mathlib.Core.Path.{_≡_};
 ghost use Rattle.dimension.specs.Errors.{layerOf};
-ghost use Rattle.grid.specs.declared.error.Cause.the-variants.{Rows};
+ghost use Rattle.grid.specs.declared.error.Cause.the-variants.{Rows, Selection};
 ghost use Rattle.grid.specs.Errors.{noted, told};
 use dimension::Layer;
 use dimension::RowFault;
 use dimension::RowFaultDebug;
 use dimension::RowFaultEq;
 use dimension::RowFaultPartialEq;
+use selection::SliceFault;
+use selection::SliceFaultDebug;
+use selection::SliceFaultEq;
+use selection::SliceFaultPartialEq;
 
 /// The calls on a grid and on its cells.
 #[derive(Clone, Copy, PartialEq, Eq, Debug)]
@@ -14,13 +18,18 @@ pub enum GridCall {
     Open,
     Fill,
     Read,
+    Slice,
+    Collapse,
+    Merge,
 }
 
-/// Why a grid call is refused: a fault of the rows, whole, or one of the grid's own.
+/// Why a grid call is refused: a fault of the rows or of a selection, whole, or one of the grid's own.
 #[derive(Clone, Copy, PartialEq, Eq, Debug)]
 pub enum Cause {
     Rows(RowFault),
+    Selection(SliceFault),
     OutOfBounds,
+    Outside(usize),
 }
 
 /// What a refused grid call hands back: why, and by which call.
@@ -37,7 +46,9 @@ impl GridFault {
     {
         match self.cause {
             Cause::Rows(fault) => fault.number(),
+            Cause::Selection(fault) => fault.number(),
             Cause::OutOfBounds => 4,
+            Cause::Outside(_) => 14,
         }
     }
 
@@ -47,7 +58,8 @@ impl GridFault {
     {
         match self.cause {
             Cause::Rows(_) => Layer::Rows,
-            Cause::OutOfBounds => Layer::Grid,
+            Cause::Selection(_) => Layer::Selection,
+            Cause::OutOfBounds | Cause::Outside(_) => Layer::Grid,
         }
     }
 
@@ -55,7 +67,11 @@ impl GridFault {
     pub fn place(&self) -> Option<usize>
         ensures { λ r. ⌜ r ≡ told (now (self .entry)) .fault .place ⌝ }
     {
-        None
+        match self.cause {
+            Cause::Selection(fault) => fault.place(),
+            Cause::Outside(axis) => Some(axis),
+            Cause::Rows(_) | Cause::OutOfBounds => None,
+        }
     }
 }
 
@@ -82,6 +98,17 @@ pub impl From<During<RowFault>> for GridFault as GridFaultFromRow {
     fn from(d: During<RowFault>) -> GridFault {
         GridFault {
             cause: Cause::Rows(d.fault),
+            call: d.call,
+        }
+    }
+}
+
+pub impl From<During<SliceFault>> for GridFault as GridFaultFromSlice {
+    ghost converts = { λ d r. r ≡ record { cause = Selection (d .fault); call = d .call } };
+
+    fn from(d: During<SliceFault>) -> GridFault {
+        GridFault {
+            cause: Cause::Selection(d.fault),
             call: d.call,
         }
     }

@@ -8,9 +8,12 @@ ghost use Rattle.laws.specs.Space.{Bounds, Distinct, up, down};
 ghost use Rattle.dimension.specs.Rows.{listed};
 use dimension::IxDyn;
 
+mod collapsing;
+mod merging;
 mod opening;
 mod overlap;
 mod parts;
+mod slicing;
 
 /// Where the cells of a grid lie: no layout exists that leaves the lent cells, has two tuples share one, or breaks a limit.
 #[derive(Clone, Copy)]

@@ -1,8 +1,16 @@
 // The layout of a grid, and the calls on it.
+mod calls;
 mod error;
 mod layout;
 mod shape_builder;
 
+pub use calls::Answer;
+pub use calls::AnswerDebug;
+pub use calls::AnswerEq;
+pub use calls::AnswerPartialEq;
+pub use calls::Call;
+pub use calls::perform;
+pub use calls::replay;
 pub use error::Cause;
 pub use error::CauseDebug;
 pub use error::CauseEq;
@@ -16,6 +24,7 @@ pub use error::GridFault;
 pub use error::GridFaultDebug;
 pub use error::GridFaultEq;
 pub use error::GridFaultFromRow;
+pub use error::GridFaultFromSlice;
 pub use error::GridFaultPartialEq;
 pub use error::at_call;
 pub use layout::Layout;

@@ -63,7 +63,7 @@ lies-reaches s k l =
     (λ (ix, r). (ix, r .within, move-back (s .start) (offset ix (s .strides)) (pos k) (r .here)))
     (sums-decides (s .lens) (s .strides) (pos k -ℤ s .start) l)
 
-lies-cases : (s : Seen) (k : ℕ) → length (s .lens) ≡ length (s .strides) → Lies s k ⊎ (Lies s k → ⊥)
+pub lies-cases : (s : Seen) (k : ℕ) → length (s .lens) ≡ length (s .strides) → Lies s k ⊎ (Lies s k → ⊥)
 lies-cases s k l =
     elim (cases-bool (reaches s k)) [ inl e ↦ inl (lies-reaches s k l .0 e) | inr e ↦ inr (not-from-decides (reaches s k) (lies-reaches s k l) e) ]
 

@@ -5,3 +5,13 @@ pub mod Space
 pub mod Faults
 pub mod Opening
 pub mod Filling
+pub mod Elements
+pub mod Slicing
+pub mod Collapsing
+pub mod Merging
+pub mod Calls
+pub mod Model
+pub mod History
+pub mod Meeting
+pub mod Posting
+pub mod Promise

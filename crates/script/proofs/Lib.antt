@@ -1,2 +1,1 @@
-pub mod Cellwise
 pub mod Numerals

@@ -37,6 +37,10 @@ blank b = eqb b 32 || eqb b 9
 abbrev pub ending : ℕ → Bool
 ending b = blank b || eqb b 91 || eqb b 93 || eqb b 44 || eqb b 47
 
+-- what ends a piece of a range: what ends a word, a dot or a semicolon
+abbrev pub edge : ℕ → Bool
+edge b = ending b || eqb b 46 || eqb b 59
+
 -- the first n bytes are the longest front whose bytes all answer so
 pub record Front (test : ℕ → Bool) (answer : Bool) (text : List ℕ) (n : ℕ) : Type 0 where
   pub within : n ≤ length text

@@ -1,5 +1,7 @@
 ghost use mathlib.Core.Path.{_≡_};
 ghost use lib.Dec.{T};
+use crate::selected::Selection;
+use crate::selected::SelectionDisplay;
 use cells::PayLine;
 use std::fmt;
 
@@ -26,7 +28,7 @@ pub enum Value {
 
 impl Value {
     /// Whether two values are the same.
-    pub(crate) fn same(&self, other: &Value) -> bool
+    pub fn same(&self, other: &Value) -> bool
         ensures { λ r. ⌜ (T r → now (self .entry) ≡ now (other .entry)) ⌝ }
     {
         match (*self, *other) {
@@ -71,13 +73,65 @@ pub struct Opening {
     pub arrangement: Arrangement,
 }
 
+/// A call that changes the open grid.
+#[derive(Drop)]
+pub enum Change {
+    Slice(Selection),
+    Collapse(usize, usize),
+    Merge(usize, usize),
+}
+
+pub impl fmt::Display for Change as ChangeDisplay {
+    fn fmt<W: fmt::Write>(&self, f: &mut fmt::Formatter<W>) -> fmt::Result {
+        match self {
+            Change::Slice(selection) => write!(f, "slice {selection}"),
+            Change::Collapse(axis, index) => write!(f, "collapse {axis} {index}"),
+            Change::Merge(take, into) => write!(f, "merge {take} {into}"),
+        }
+    }
+}
+
+/// A value for every cell of the open grid, or for those of a selection of it.
+#[derive(Drop)]
+pub struct Filling {
+    pub selection: Option<Selection>,
+    pub value: Marked<Value>,
+}
+
+/// A range of an axis: from where, up to where if that is said, and in which steps.
+#[derive(Clone, Copy)]
+pub struct AxisRange {
+    pub start: isize,
+    pub end: Option<isize>,
+    pub step: isize,
+}
+
+/// A range on one axis of so many, with all others whole.
+#[derive(Clone, Copy)]
+pub struct Ruling {
+    pub rank: usize,
+    pub axis: usize,
+    pub range: AxisRange,
+}
+
+/// A selection to store, with the counts of axes that it should take and leave, where they are said.
+#[derive(Drop)]
+pub struct Storing {
+    pub in_dim: Option<usize>,
+    pub out_dim: Option<usize>,
+    pub selection: Selection,
+}
+
 /// What one line asks for.
 #[derive(Drop)]
 pub enum Command {
     Lend(Marked<usize>, Kind),
     Open(Opening),
-    Fill(Marked<Value>),
+    Change(Change),
+    Fill(Filling),
     Read(Vec<usize>),
+    Rule(Ruling),
+    Info(Storing),
     Cells,
     Report,
 }

@@ -11,6 +11,13 @@ pub enum Noun {
     Person,
     Code,
     Amount,
+    Axis,
+    Rank,
+    Count,
+    Place,
+    Start,
+    Stop,
+    Step,
 }
 
 impl Noun {
@@ -25,16 +32,25 @@ impl Noun {
             Noun::Person => "a person's number",
             Noun::Code => "a pay code",
             Noun::Amount => "an amount in cents",
+            Noun::Axis => "an axis",
+            Noun::Rank => "a rank",
+            Noun::Count => "a count of axes",
+            Noun::Place => "an index",
+            Noun::Start => "the start of a range",
+            Noun::Stop => "the end of a range",
+            Noun::Step => "the step of a range",
         }
     }
 
     /// The numbers that are allowed, as a message has them.
     fn range(self) -> &'static str {
         match self {
-            Noun::Cells | Noun::Size | Noun::Length | Noun::Index => "0 to 18446744073709551615",
-            Noun::Stride | Noun::Amount => "-9223372036854775808 to 9223372036854775807",
+            Noun::Stride | Noun::Amount | Noun::Place | Noun::Start | Noun::Stop | Noun::Step => {
+                "-9223372036854775808 to 9223372036854775807"
+            }
             Noun::Person => "0 to 4294967295",
             Noun::Code => "0 to 255",
+            _ => "0 to 18446744073709551615",
         }
     }
 }
@@ -51,6 +67,10 @@ pub enum What {
     RowEnd,
     Strides,
     Value,
+    Selection,
+    Element,
+    Dots,
+    Count,
     Slash,
     End,
     Grid,
@@ -65,13 +85,19 @@ impl What {
     fn words(self) -> &'static str {
         match self {
             What::Ascii => "ASCII text",
-            What::Command => "lend, open, fill, read, cells or report",
+            What::Command => {
+                "lend, open, slice, collapse, merge, fill, read, rule, info, cells or report"
+            },
             What::Number(noun) | What::Range(noun) => noun.name(),
             What::Kind => "cents or lines",
             What::Row => "a row in brackets, such as [2,3,4]",
             What::RowEnd => ", or ]",
             What::Strides => "c, f or a row of strides",
             What::Value => "an amount in cents or a pay line PERSON/CODE/CENTS",
+            What::Selection => "a selection in brackets, such as [0..10;2,3,NewAxis]",
+            What::Element => "a range START..END;STEP, an index or NewAxis",
+            What::Dots => ".. as in a range START..END;STEP",
+            What::Count => "a count of axes or _",
             What::Slash => "/ and an amount in cents",
             What::End => "the end of the command",
             What::Grid => "an open grid",

@@ -14,12 +14,14 @@ use crate::scan::Cursor;
 use crate::scan::is_blank;
 use std::alloc::Global;
 
+mod calls;
+mod ranges;
 mod rows;
+mod selections;
 mod values;
 
 use rows::row;
 use values::number;
-use values::value;
 
 /// What a line asks for, or none where it has nothing but blanks and a comment.
 pub fn parse_line(heap: Global, line: &[u8]) -> Result<Option<Marked<Command>>, Expected>
@@ -78,8 +80,13 @@ fn command(heap: Global, cursor: &mut Cursor<'_>) -> Result<Command, Expected>
     match word.value {
         b"lend" => lend(cursor),
         b"open" => open(heap, cursor),
-        b"fill" => Ok(Command::Fill(value(cursor)?)),
+        b"slice" => calls::slice(heap, cursor),
+        b"collapse" => calls::collapse(cursor),
+        b"merge" => calls::merge(cursor),
+        b"fill" => calls::fill(heap, cursor),
         b"read" => Ok(Command::Read(row(heap, cursor, Noun::Index)?)),
+        b"rule" => calls::rule(cursor),
+        b"info" => calls::info(heap, cursor),
         b"cells" => Ok(Command::Cells),
         b"report" => Ok(Command::Report),
         _ => Err(Expected {

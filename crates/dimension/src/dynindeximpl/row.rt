@@ -1,9 +1,11 @@
 ghost use mathlib.Core.Path.{_≡_};
+ghost use mathlib.Core.List.{[]};
 ghost use Prim.Native.Nat.{_≤_};
-ghost use lib.ListN.{replicate};
+ghost use lib.Dec.{ltb};
+ghost use lib.ListN.{length, replicate};
 ghost use Rattle.std.specs.declared.option.Option.the-variants.{None};
 ghost use Rattle.dimension.specs.Errors.{answered};
-ghost use Rattle.dimension.specs.Rows.{listed, listed-owed, counted, zeros};
+ghost use Rattle.dimension.specs.Rows.{listed, listed-owed, counted, pushed, zeros};
 use super::IxDyn;
 use crate::dimension_trait::Dimension;
 use crate::error::RowFault;
@@ -25,6 +27,16 @@ impl IxDyn {
             cells,
             count: list.len(),
         })
+    }
+
+    /// A row of no words.
+    pub fn blank() -> IxDyn
+        ensures { λ r. ⌜ listed r ≡ [] ⌝ }
+    {
+        IxDyn {
+            cells: [0; 8],
+            count: 0,
+        }
     }
 
     /// A row of `count` zeros, of which there are at most eight.
@@ -50,6 +62,24 @@ impl IxDyn {
             cells[place] = word_at(row, place);
         }
         IxDyn { cells, count }
+    }
+
+    /// Adds a word at the end; a row of eight words answers no and stays as it is.
+    pub fn push(&mut self, word: usize) -> bool
+        ensures after { λ _. ⌜ listed (now (self .exit)) ≡ pushed (listed (now (self .entry))) word ⌝ }
+        ensures answer { λ r. ⌜ r ≡ ltb (length (listed (now (self .entry)))) 8 ⌝ }
+    {
+        let count = self.count;
+        if count >= 8 {
+            return false;
+        }
+        let mut cells = self.cells;
+        cells[count] = word;
+        *self = IxDyn {
+            cells,
+            count: count + 1,
+        };
+        true
     }
 }
 

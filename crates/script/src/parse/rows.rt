@@ -47,7 +47,7 @@ fn entry(cursor: &mut Cursor<'_>, noun: Noun) -> Result<usize, Expected>
 }
 
 /// Whether a comma follows, and not the bracket that ends the row.
-fn goes_on(cursor: &mut Cursor<'_>) -> Result<bool, Expected>
+pub(super) fn goes_on(cursor: &mut Cursor<'_>) -> Result<bool, Expected>
     ensures onward { λ _. ⌜ Onward (now (cursor .entry)) (now (cursor .exit)) ⌝ }
     ensures further { λ r. ⌜ made r (λ _. now (cursor .entry) .at < now (cursor .exit) .at) ⌝ }
     ensures place { λ r. ⌜ Placed (length (bytes (now (cursor .entry)))) r ⌝ }

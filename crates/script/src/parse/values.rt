@@ -15,21 +15,30 @@ use crate::scan::numbers::natural_u8;
 use crate::scan::numbers::natural_u32;
 use cells::PayLine;
 
-/// Says at which column a word is no such number.
-fn noted<T>(read: Result<T, Unread>, column: usize, noun: Noun) -> Result<T, Expected>
+/// Says at which column a word is no such number, and what is lacking where it is no number at all.
+pub(super) fn noted_as<T>(
+    read: Result<T, Unread>,
+    column: usize,
+    what: What,
+    noun: Noun,
+) -> Result<T, Expected>
     ensures { λ r. ⌜ refused r (λ e. e .column ≡ column) ⌝ }
 {
     match read {
         Ok(number) => Ok(number),
-        Err(Unread::NoNumber) => Err(Expected {
-            column,
-            what: What::Number(noun),
-        }),
+        Err(Unread::NoNumber) => Err(Expected { column, what }),
         Err(Unread::OutOfRange) => Err(Expected {
             column,
             what: What::Range(noun),
         }),
     }
+}
+
+/// Says at which column a word is no such number.
+pub(super) fn noted<T>(read: Result<T, Unread>, column: usize, noun: Noun) -> Result<T, Expected>
+    ensures { λ r. ⌜ refused r (λ e. e .column ≡ column) ⌝ }
+{
+    noted_as(read, column, What::Number(noun), noun)
 }
 
 /// The next word as a number of 64 bits.
@@ -61,25 +70,13 @@ pub(super) fn value(cursor: &mut Cursor<'_>) -> Result<Marked<Value>, Expected>
     let first = cursor.next_word();
     let column = first.column;
     if !cursor.take(b'/') {
-        let value = Value::Cents(cents(first.value, column)?);
+        let cents = noted_as(integer(first.value), column, What::Value, Noun::Amount)?;
+        let value = Value::Cents(cents);
         return Ok(Marked { column, value });
     }
     let person = noted(natural_u32(first.value), column, Noun::Person)?;
     let value = Value::Line(pay_line(person, cursor)?);
     Ok(Marked { column, value })
-}
-
-/// A word as an amount, where a pay line could have stood.
-fn cents(word: &[u8], column: usize) -> Result<i64, Expected>
-    ensures { λ r. ⌜ refused r (λ e. e .column ≡ column) ⌝ }
-{
-    match integer(word) {
-        Err(Unread::NoNumber) => Err(Expected {
-            column,
-            what: What::Value,
-        }),
-        read => noted(read, column, Noun::Amount),
-    }
 }
 
 /// A pay line of which the person and a slash are read.

@@ -3,7 +3,7 @@ ghost use mathlib.Core.Path.{_≡_};
 ghost use Prim.Native.Nat.{_+_, _-_, _<_, _≤_};
 ghost use lib.Dec.{T};
 ghost use lib.ListN.{drop, length, take};
-ghost use Rattle.script.specs.Cursors.{Column, Front, Onward, blank, bytes, ending};
+ghost use Rattle.script.specs.Cursors.{Column, Front, Onward, blank, bytes, edge, ending};
 use super::Cursor;
 use crate::command::Marked;
 use crate::expected::Expected;
@@ -21,6 +21,13 @@ fn is_ending(byte: u8) -> bool
     ensures { λ r. ⌜ r ≡ ending byte ⌝ }
 {
     is_blank(byte) || byte == b'[' || byte == b']' || byte == b',' || byte == b'/'
+}
+
+/// Whether a byte ends a piece of a range: what ends a word, a dot or a semicolon.
+fn is_edge(byte: u8) -> bool
+    ensures { λ r. ⌜ r ≡ edge byte ⌝ }
+{
+    is_ending(byte) || byte == b'.' || byte == b';'
 }
 
 /// How many bytes at the front are blanks.
@@ -41,6 +48,18 @@ fn parts(text: &[u8]) -> usize
 {
     for (count, byte) in text.iter().enumerate() {
         if is_ending(*byte) {
+            return count;
+        }
+    }
+    text.len()
+}
+
+/// How many bytes at the front are part of a piece of a range.
+fn pieces(text: &[u8]) -> usize
+    ensures { λ r. ⌜ Front edge false (now (text .entry)) r ⌝ }
+{
+    for (count, byte) in text.iter().enumerate() {
+        if is_edge(*byte) {
             return count;
         }
     }
@@ -127,5 +146,20 @@ impl<'a> Cursor<'a> {
     {
         self.skip_blanks();
         self.word()
+    }
+
+    /// The piece of a range after the blanks that come next, which is empty where none begins.
+    pub(crate) fn next_piece(&mut self) -> Marked<&'a [u8]>
+        ensures onward { λ _. ⌜ Onward (now (self .entry)) (now (self .exit)) ⌝ }
+        ensures place { λ r. ⌜ Column (length (bytes (now (self .entry)))) (r .column) ⌝ }
+    {
+        self.skip_blanks();
+        let column = self.column();
+        let start = self.at;
+        self.at += pieces(&self.line[start..]);
+        Marked {
+            column,
+            value: &self.line[start..self.at],
+        }
     }
 }

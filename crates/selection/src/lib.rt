@@ -1,0 +1,31 @@
+// Selections: their elements, the kinds of selection, and what an element makes of an axis.
+mod arg;
+mod error;
+mod info;
+mod lent;
+mod resolving;
+mod rule;
+mod slice;
+mod slicing;
+
+pub use arg::SliceArg;
+pub use error::SliceFault;
+pub use error::SliceFaultDebug;
+pub use error::SliceFaultEq;
+pub use error::SliceFaultPartialEq;
+pub use info::SliceInfo;
+pub use info::SliceInfoSliceArg;
+pub use lent::Lent;
+pub use lent::LentSliceArg;
+pub use resolving::abs_index;
+pub use resolving::entry_count;
+pub use resolving::first_index;
+pub use resolving::resolve_index;
+pub use resolving::resolve_slice;
+pub use rule::AxisRule;
+pub use rule::AxisRuleSliceArg;
+pub use slice::SliceInfoElem;
+pub use slice::SliceInfoElemDebug;
+pub use slice::SliceInfoElemEq;
+pub use slice::SliceInfoElemPartialEq;
+pub use slicing::slice_fault;
