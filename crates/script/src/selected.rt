@@ -1,3 +1,5 @@
+ghost use mathlib.Core.Path.{_≡_};
+ghost use Rattle.std.specs.Of.Vec.{vec-items};
 use selection::Lent;
 use selection::LentSliceArg;
 use selection::SliceArg;
@@ -13,7 +15,9 @@ pub struct Selection {
 
 impl Selection {
     /// The elements, lent to a call.
-    pub fn lent(&self) -> Lent<'_> {
+    pub fn lent(&self) -> Lent<'_>
+        ensures { λ r. ⌜ now (r .0) ≡ vec-items (now (self .entry) .elems) ⌝ }
+    {
         Lent(self.elems.as_slice())
     }
 
