@@ -29,7 +29,8 @@ pub enum Value {
 impl Value {
     /// Whether two values are the same.
     pub fn same(&self, other: &Value) -> bool
-        ensures { λ r. ⌜ (T r → now (self .entry) ≡ now (other .entry)) ⌝ }
+        ensures sound { λ r. ⌜ (T r → now (self .entry) ≡ now (other .entry)) ⌝ }
+        ensures complete { λ r. ⌜ (now (self .entry) ≡ now (other .entry) → T r) ⌝ }
     {
         match (*self, *other) {
             (Value::Cents(mine), Value::Cents(theirs)) => mine == theirs,
