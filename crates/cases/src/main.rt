@@ -1,4 +1,6 @@
 // Performs the cases on standard input, wrong lines among them.
+#![tactic(auto)]
+
 use session::run_script;
 use std::io;
 

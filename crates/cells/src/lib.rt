@@ -1,4 +1,6 @@
 // Filling the cells of a grid, and reading them.
+#![tactic(auto)]
+
 mod filling;
 mod pay;
 mod reader;

@@ -1,4 +1,6 @@
 // Rows of words, the orders, and what is computed of a shape.
+#![tactic(auto)]
+
 mod dim;
 mod dimension_trait;
 mod dynindeximpl;

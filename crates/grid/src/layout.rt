@@ -11,7 +11,7 @@ mod merging;
 mod opening;
 mod overlap;
 mod parts;
-mod reshaping;
+mod shaping;
 mod slicing;
 
 /// Where the cells of a grid lie: no layout exists that leaves the lent cells, has two tuples share one, or breaks a limit.

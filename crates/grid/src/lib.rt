@@ -1,4 +1,6 @@
 // The layout of a grid, and the calls on it.
+#![tactic(auto)]
+
 mod calls;
 mod error;
 mod layout;

@@ -1,1 +1,3 @@
 // The subject's words and their laws, over plain lists; there is no code here to run.
+#![tactic(auto)]
+

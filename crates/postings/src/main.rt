@@ -1,4 +1,6 @@
 // Performs the script on standard input, and ends with status 1 if some line could not be read.
+#![tactic(auto)]
+
 use session::run_script;
 use std::io;
 

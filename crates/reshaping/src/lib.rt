@@ -1,4 +1,6 @@
 // Reshaping: the strides of other lengths over the same cells.
+#![tactic(auto)]
+
 mod groups;
 mod reshape;
 mod walk;

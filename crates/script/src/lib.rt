@@ -1,4 +1,6 @@
 // A line of text becomes a command.
+#![tactic(auto)]
+
 mod command;
 mod expected;
 mod parse;

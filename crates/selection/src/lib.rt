@@ -1,4 +1,6 @@
 // Selections: their elements, the kinds of selection, and what an element makes of an axis.
+#![tactic(auto)]
+
 mod arg;
 mod error;
 mod info;

@@ -1,4 +1,6 @@
 // A command becomes an answer, an answer a line of text.
+#![tactic(auto)]
+
 mod answer;
 mod calls;
 mod lent;

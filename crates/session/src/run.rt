@@ -3,10 +3,9 @@ ghost use Rattle.std.specs.Prelude.{◌≡◌, ◌+◌, ◌-◌, ◌^◌, ◌≤
 use crate::refusal::Refusal;
 use crate::session::Session;
 use script::{Command, Expected, Marked, parse_line};
-use std::alloc::Global;
-use std::fmt::Write;
+use std::alloc::{AllocError, Global};
+use std::io;
 use std::io::{BufRead, BufReader};
-use std::{fmt, io};
 
 /// A script that is being performed, line by line.
 #[derive(Drop)]
@@ -38,7 +37,7 @@ impl Run {
     }
 
     /// Performs the next line, and adds its answer to the text.
-    pub(crate) fn step(&mut self, line: &[u8], text: &mut String) -> fmt::Result
+    pub(crate) fn step(&mut self, line: &[u8], text: &mut String) -> Result<(), AllocError>
         ensures lines { self.new.line ≡ min (self.old.line + 1) (2 ^ 64 - 1) }
         ensures errors { self.old.errors ≤ self.new.errors }
     {
@@ -51,7 +50,7 @@ impl Run {
     }
 
     /// Performs a command, and adds its answer to the text.
-    fn perform(&mut self, command: Marked<Command>, text: &mut String) -> fmt::Result
+    fn perform(&mut self, command: Marked<Command>, text: &mut String) -> Result<(), AllocError>
         ensures lines { self.new.line ≡ self.old.line }
         ensures errors { self.old.errors ≤ self.new.errors }
     {
@@ -63,7 +62,7 @@ impl Run {
     }
 
     /// Counts a wrong line, and adds what is wrong to the text.
-    fn refuse(&mut self, expected: Expected, text: &mut String) -> fmt::Result
+    fn refuse(&mut self, expected: Expected, text: &mut String) -> Result<(), AllocError>
         ensures lines { self.new.line ≡ self.old.line }
         ensures counted { self.new.errors ≡ min (self.old.errors + 1) (2 ^ 64 - 1) }
         ensures errors { self.old.errors ≤ self.new.errors }

@@ -1,6 +1,8 @@
 // Examples of rows, opening, selections, slicing, collapsing, merging, filling and reading, each run by the gate.
+#![tactic(auto)]
+
 #[cfg(test)]
-mod cells;
+mod filling;
 #[cfg(test)]
 mod opening;
 #[cfg(test)]

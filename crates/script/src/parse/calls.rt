@@ -85,7 +85,7 @@ fn count(cursor: &mut Cursor<'_>) -> Result<Option<usize>, Expected>
     ensures place { Placed (length (bytes cursor.old)) result }
 {
     let word = cursor.next_word();
-    if word.value == b"_" {
+    if word.value == b"_".as_slice() {
         return Ok(None);
     }
     let count = noted_as(natural(word.value), word.column, What::Count, Noun::Count)?;

@@ -59,7 +59,7 @@ fn element(cursor: &mut Cursor<'_>) -> Result<SliceInfoElem, Expected>
 fn lone(word: Marked<&[u8]>) -> Result<SliceInfoElem, Expected>
     ensures { IfErr result (λ e. e.column ≡ word.entry.column) }
 {
-    if word.value == b"NewAxis" {
+    if word.value == b"NewAxis".as_slice() {
         return Ok(SliceInfoElem::NewAxis);
     }
     let index = noted_as(integer(word.value), word.column, What::Element, Noun::Place)?;

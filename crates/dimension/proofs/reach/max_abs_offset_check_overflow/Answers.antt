@@ -33,37 +33,37 @@ returns-then-ndim g c =
     let differ : eqb (length ls) (length (signed ws)) ≡ false = ne_eqb _ _ (λ e. omega arith) in
     rw differ
 
-pub checked-reach-requires : goal.checked-reach-requires
-checked-reach-requires g c = omega arith
+pub checked_reach-requires : goal.checked_reach-requires
+checked_reach-requires g c = omega arith
 
-pub returns-in-err--count : goal.returns-in-err--count
-returns-in-err--count g c =
+pub returns-in_err-_count : goal.returns-in_err-_count
+returns-in_err-_count g c =
     let ls = g.D.Dimension.words c.args.dim.now in
     let ws = g.S.Dimension.words c.args.strides.now in
     let long = length-signed ws in
     let same : eqb (length ls) (length (signed ws)) ≡ true = eq-eqb _ _ (omega arith) in
-    let p = err_from_is_err_and c.from-residual.result c.from-residual.ensures.1 in
-    let fault = row_fault c.in-err--count.field-0.0 in
-    let over = refused_test (ltb most (nonzeros ls)) (in_rows 6) fault (product ls) c.in-err--count.ensures in
-    rw (p.1, p.2, same, over) (ap (λ (f : Fault). Err f) (refused_with (ltb most (nonzeros ls)) (in_rows 6) fault (product ls) c.in-err--count.ensures))
+    let p = err_from_is_err_and c.from_residual.result c.from_residual.ensures.1 in
+    let fault = row_fault c.in_err-_count.field-0.0 in
+    let over = refused_test (ltb most (nonzeros ls)) (in_rows 6) fault (product ls) c.in_err-_count.ensures in
+    rw (p.1, p.2, same, over) (ap (λ (f : Fault). Err f) (refused_with (ltb most (nonzeros ls)) (in_rows 6) fault (product ls) c.in_err-_count.ensures))
 
-pub returns-in-default : goal.returns-in-default
-returns-in-default g c =
+pub returns-in_default : goal.returns-in_default
+returns-in_default g c =
     let ls = g.D.Dimension.words c.args.dim.now in
     let ws = g.S.Dimension.words c.args.strides.now in
     let long = length-signed ws in
     let same : eqb (length ls) (length (signed ws)) ≡ true = eq-eqb _ _ (omega arith) in
-    let far : ltb most (span ls (signed ws)) ≡ true = lt-ltb _ _ (limited_none (span ls (signed ws)) c.in-default.ensures) in
+    let far : ltb most (span ls (signed ws)) ≡ true = lt-ltb _ _ (limited_none (span ls (signed ws)) c.in_default.ensures) in
     too_far (length ls) (length (signed ws)) (nonzeros ls) (span ls (signed ws)) c.args.size same (or_left _ _ far)
 
-pub returns-then-not-product-within : goal.returns-then-not-product-within
-returns-then-not-product-within g c =
+pub returns-then-not-product_within : goal.returns-then-not-product_within
+returns-then-not-product_within g c =
     let ls = g.D.Dimension.words c.args.dim.now in
     let ws = g.S.Dimension.words c.args.strides.now in
     let long = length-signed ws in
     let same : eqb (length ls) (length (signed ws)) ≡ true = eq-eqb _ _ (omega arith) in
     let is = limited-some (span ls (signed ws)) c.in-Some.far c.in-Some.ensures in
-    let past = leb-false (c.in-Some.far * c.args.size) most (sym c.if-not-product-within.ensures) in
+    let past = leb-false (c.in-Some.far * c.args.size) most (sym c.if-not-product_within.ensures) in
     let bytes : ltb most (span ls (signed ws) * c.args.size) ≡ true =
     lt-ltb _ _ (subst (λ (n : ℕ). most < n * c.args.size) is.0 past) in
     too_far (length ls) (length (signed ws)) (nonzeros ls) (span ls (signed ws)) c.args.size same (or_right _ _ bytes)
@@ -75,9 +75,9 @@ returns g c =
     let long = length-signed ws in
     let same : eqb (length ls) (length (signed ws)) ≡ true = eq-eqb _ _ (omega arith) in
     let is = limited-some (span ls (signed ws)) c.in-Some.far c.in-Some.ensures in
-    let size = passed (ltb most (nonzeros ls)) (in_rows 6) c.in-ok--count.-count (product ls) c.in-ok--count.ensures in
+    let size = passed (ltb most (nonzeros ls)) (in_rows 6) c.in_ok-_count._count (product ls) c.in_ok-_count.ensures in
     let far : ltb most (span ls (signed ws)) ≡ false = le-ltb _ _ is.1 in
-    let fit = leb-true (c.in-Some.far * c.args.size) most (sym c.if-not-product-within.ensures) in
+    let fit = leb-true (c.in-Some.far * c.args.size) most (sym c.if-not-product_within.ensures) in
     let bytes : ltb most (span ls (signed ws) * c.args.size) ≡ false =
     le-ltb _ _ (subst (λ (n : ℕ). n * c.args.size ≤ most) is.0 fit) in
     rw (same, size, far, bytes) (ap (λ (n : ℕ). Ok n) is.0)

@@ -6,8 +6,8 @@ use Rattle.laws.proofs.Lists.{some-here, some_more, some_none}
 use Rattle.laws.proofs.Words.{length-signed, signed_at, negative_word, positive_word}
 use Rattle.dimension.proofs.reach.strides_non_negative.Goals as goal
 
-pub returns-then-word-at-gt-MOST : goal.returns-then-word-at-gt-MOST
-returns-then-word-at-gt-MOST g c =
+pub returns-then-word_at-gt-MOST : goal.returns-then-word_at-gt-MOST
+returns-then-word_at-gt-MOST g c =
     let ws = g.S.Dimension.words c.args.strides.now in
     let i = c.loop-place.place in
     let long = length-signed ws in

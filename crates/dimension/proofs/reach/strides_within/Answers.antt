@@ -10,7 +10,7 @@ returns-then-magnitude-limit g c =
     let ws = g.S.Dimension.words c.args.strides.now in
     let i = c.loop-place.place in
     let long = length-signed ws in
-    let is : nat_abs (get_or (signed ws) i (pos 0)) ≡ c.magnitude.result = sym (c.magnitude.ensures ∙ ap (λ w. nat_abs (to_z w64 w)) c.word-at.ensures ∙ ap nat_abs (sym (signed_at ws i (omega arith)))) in
+    let is : nat_abs (get_or (signed ws) i (pos 0)) ≡ c.magnitude.result = sym (c.magnitude.ensures ∙ ap (λ w. nat_abs (to_z w64 w)) c.word_at.ensures ∙ ap nat_abs (sym (signed_at ws i (omega arith)))) in
     ap not (sym (some-here (λ (z : ℤ). ltb c.args.limit (nat_abs z)) (signed ws) i (pos 0) (omega arith) (lt-ltb _ _ (omega arith))) ∙ c.loop-place.invariant)
 
 pub loop-place-preserved : goal.loop-place-preserved
@@ -18,7 +18,7 @@ loop-place-preserved g c =
     let ws = g.S.Dimension.words c.args.strides.now in
     let i = c.loop-place.place in
     let long = length-signed ws in
-    let is : nat_abs (get_or (signed ws) i (pos 0)) ≡ c.magnitude.result = sym (c.magnitude.ensures ∙ ap (λ w. nat_abs (to_z w64 w)) c.word-at.ensures ∙ ap nat_abs (sym (signed_at ws i (omega arith)))) in
+    let is : nat_abs (get_or (signed ws) i (pos 0)) ≡ c.magnitude.result = sym (c.magnitude.ensures ∙ ap (λ w. nat_abs (to_z w64 w)) c.word_at.ensures ∙ ap nat_abs (sym (signed_at ws i (omega arith)))) in
     some_more (λ (z : ℤ). ltb c.args.limit (nat_abs z)) (signed ws) i (pos 0) (omega arith) (le-ltb _ _ (omega arith)) ∙ c.loop-place.invariant
 
 pub returns : goal.returns

@@ -16,8 +16,8 @@ pub returns-then-whole-limit : goal.returns-then-whole-limit
 returns-then-whole-limit g c =
     let ws = g.D.Dimension.words c.args.dim.now in
     let i = c.loop-place.place in
-    let by = c.counted-length-by.result in
-    let is : by ≡ nonzero (get_or ws i 0) = c.counted-length-by.ensures ∙ ap nonzero c.word-at.ensures in
+    let by = c.counted_length-by.result in
+    let is : by ≡ nonzero (get_or ws i 0) = c.counted_length-by.ensures ∙ ap nonzero c.word_at.ensures in
     let pos : 0 < by = subst (λ (n : ℕ). 0 < n) (sym is) (nonzero-pos (get_or ws i 0)) in
     let big = past c.loop-place.whole by c.args.limit pos c.if-whole-limit.true in
     let more = nonzeros_more ws i c.loop-place.whole (nonzeros ws) (omega arith) c.loop-place.invariant.0 in
@@ -25,10 +25,10 @@ returns-then-whole-limit g c =
     let same = ap (λ n. c.loop-place.whole * n) is in
     sym (lt-leb (nonzeros ws) c.args.limit (omega arith))
 
-pub overflow-mul-whole : goal.overflow-mul-whole
-overflow-mul-whole g c =
-    let by = c.counted-length-by.result in
-    let pos : 0 < by = subst (λ (n : ℕ). 0 < n) (sym c.counted-length-by.ensures) (nonzero-pos c.word-at.result) in
+pub overflow_mul-whole : goal.overflow_mul-whole
+overflow_mul-whole g c =
+    let by = c.counted_length-by.result in
+    let pos : 0 < by = subst (λ (n : ℕ). 0 < n) (sym c.counted_length-by.ensures) (nonzero-pos c.word_at.result) in
     let fit = within c.loop-place.whole by c.args.limit pos c.if-whole-limit.false in
     omega arith
 
@@ -36,8 +36,8 @@ pub loop-place-preserved : goal.loop-place-preserved
 loop-place-preserved g c =
     let ws = g.D.Dimension.words c.args.dim.now in
     let i = c.loop-place.place in
-    let by = c.counted-length-by.result in
-    let is : by ≡ nonzero (get_or ws i 0) = c.counted-length-by.ensures ∙ ap nonzero c.word-at.ensures in
+    let by = c.counted_length-by.result in
+    let is : by ≡ nonzero (get_or ws i 0) = c.counted_length-by.ensures ∙ ap nonzero c.word_at.ensures in
     let pos : 0 < by = subst (λ (n : ℕ). 0 < n) (sym is) (nonzero-pos (get_or ws i 0)) in (
       ap (λ n. c.loop-place.whole * n * nonzeros (drop (i + 1) ws)) is ∙ nonzeros_more ws i c.loop-place.whole (nonzeros ws) (omega arith) c.loop-place.invariant.0,
       within c.loop-place.whole by c.args.limit pos c.if-whole-limit.false,

@@ -12,19 +12,19 @@ loop-place-init g c =
     let l : length ws ≤ n = omega arith in
     let one : product (drop n ws) ≡ 1 = at_drop_all product ws n l in
     let none : scaled a (drop n ws) ≡ [] = at_drop_all (scaled a) ws n l in (
-      c.first-step-step.ensures ∙ sym (mul-one a) ∙ ap (λ m. a * m) (sym one),
+      c.first_step-step.ensures ∙ sym (mul-one a) ∙ ap (λ m. a * m) (sym one),
       drop_all n ws (omega arith) ∙ sym none,
       refl,
     )
 
-pub overflow-mul-step : goal.overflow-mul-step
-overflow-mul-step g c =
+pub overflow_mul-step : goal.overflow_mul-step
+overflow_mul-step g c =
     let ws = g.D.Dimension.words c.args.dim.now in
     let p = c.loop-place.place in
     let down = step_less (cond (some_zero ws) 0 1) p ws (omega arith) (omega arith) in
     let fit = step_fits (some_zero ws) (p - 1) ws in
-    let is : c.loop-place.step * c.word-at-step.result ≡ cond (some_zero ws) 0 1 * product (drop (p - 1) ws) =
-    ap (λ n. n * c.word-at-step.result) c.loop-place.invariant.0 ∙ ap (λ n. cond (some_zero ws) 0 1 * product (drop p ws) * n) c.word-at-step.ensures ∙ down in
+    let is : c.loop-place.step * c.word_at-step.result ≡ cond (some_zero ws) 0 1 * product (drop (p - 1) ws) =
+    ap (λ n. n * c.word_at-step.result) c.loop-place.invariant.0 ∙ ap (λ n. cond (some_zero ws) 0 1 * product (drop p ws) * n) c.word_at-step.ensures ∙ down in
     omega (arith, c.requires)
 
 pub loop-place-preserved : goal.loop-place-preserved
@@ -33,7 +33,7 @@ loop-place-preserved g c =
     let out = g.D.Dimension.words c.loop-place.out in
     let p = c.loop-place.place in
     let a = cond (some_zero ws) 0 1 in (
-      ap (λ n. n * c.word-at-step.result) c.loop-place.invariant.0 ∙ ap (λ n. a * product (drop p ws) * n) c.word-at-step.ensures ∙ step_less a p ws (omega arith) (omega arith),
+      ap (λ n. n * c.word_at-step.result) c.loop-place.invariant.0 ∙ ap (λ n. a * product (drop p ws) * n) c.word_at-step.ensures ∙ step_less a p ws (omega arith) (omega arith),
       ap (drop (p - 1)) (c.set.ensures.after ∙ ap (set out (p - 1)) c.loop-place.invariant.0) ∙ write_less a p ws out (omega arith) (omega arith) c.loop-place.invariant.2 c.loop-place.invariant.1,
       ap length c.set.ensures.after ∙ length-set out (p - 1) c.loop-place.step ∙ c.loop-place.invariant.2,
     )

@@ -36,7 +36,7 @@ loop-place-preserved g c =
     let long = c.loop-place.invariant.1 in (
       ap (λ x. take (p + 1) (signed x) ++ quotients (to_z w64 c.divided-step.result) (take (c.args.end - (p + 1)) (drop (p + 1) ms))) c.set.ensures.after
           ∙ write_more ms out (take c.args.start (signed (g.T.Dimension.words c.args.out.now)) ++ quotients (to_z w64 c.args.whole) (take (c.args.end - c.args.start) (drop c.args.start ms)))
-          c.args.end p c.loop-place.step c.divided-step.result (omega arith) (omega arith) (omega arith) (c.divided-step.ensures ∙ ap (λ n. quot_z (to_z w64 c.loop-place.step) (pos n)) c.word-at.ensures) c.loop-place.invariant.0,
+          c.args.end p c.loop-place.step c.divided-step.result (omega arith) (omega arith) (omega arith) (c.divided-step.ensures ∙ ap (λ n. quot_z (to_z w64 c.loop-place.step) (pos n)) c.word_at.ensures) c.loop-place.invariant.0,
       ap length c.set.ensures.after ∙ length-set out p c.divided-step.result ∙ long,
     )
 

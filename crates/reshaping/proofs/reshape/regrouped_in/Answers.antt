@@ -9,29 +9,29 @@ use Rattle.dimension.specs.Errors.{row_fault}
 use Rattle.dimension.specs.Rows.{listed}
 use Rattle.reshaping.proofs.reshape.regrouped_in.Goals as goal
 
-pub reshape-dim-c-requires : goal.reshape-dim-c-requires
-reshape-dim-c-requires g c = record { room = ap length c.copy-of-out.ensures; ready = c.requires }
+pub reshape_dim_c-requires : goal.reshape_dim_c-requires
+reshape_dim_c-requires g c = record { room = ap length c.copy_of-out.ensures; ready = c.requires }
 
-pub reshape-dim-c-requires-in-ColumnMajor : goal.reshape-dim-c-requires-in-ColumnMajor
-reshape-dim-c-requires-in-ColumnMajor g c =
+pub reshape_dim_c-requires-in-ColumnMajor : goal.reshape_dim_c-requires-in-ColumnMajor
+reshape_dim_c-requires-in-ColumnMajor g c =
     let ls = g.F.Dimension.words c.args.from.now in
     let ss = g.S.Dimension.words c.args.strides.now in
     let ms = g.E.Dimension.words c.args.to.now in
     record {
-      room = ap (λ (x : List ℕ). length (reverse x)) c.copy-of.ensures;
+      room = ap (λ (x : List ℕ). length (reverse x)) c.copy_of.ensures;
       ready = subst (λ (x : List ℤ). Ready (reverse ls) x (reverse ms)) (sym (signed-reverse ss)) (ready-reverse ls (signed ss) ms c.requires);
     }
 
-pub returns-in-err-reshape-dim-c : goal.returns-in-err-reshape-dim-c
-returns-in-err-reshape-dim-c g c =
-    let p = err_from_is_err_and c.from-residual.result c.from-residual.ensures.1 in
+pub returns-in_err-reshape_dim_c-in-RowMajor : goal.returns-in_err-reshape_dim_c-in-RowMajor
+returns-in_err-reshape_dim_c-in-RowMajor g c =
+    let p = err_from_is_err_and c.from_residual.result c.from_residual.ensures.1 in
     let is = c.in-RowMajor.is in
-    rw (p.1, p.2, is) c.in-err-reshape-dim-c.ensures
+    rw (p.1, p.2, is) c.in_err-reshape_dim_c-in-RowMajor.ensures
 
-pub returns-in-ok-reshape-dim-c : goal.returns-in-ok-reshape-dim-c
-returns-in-ok-reshape-dim-c g c =
+pub returns-in_ok-reshape_dim_c-in-RowMajor : goal.returns-in_ok-reshape_dim_c-in-RowMajor
+returns-in_ok-reshape_dim_c-in-RowMajor g c =
     let is = c.in-RowMajor.is in
-    rw is c.in-ok-reshape-dim-c.ensures
+    rw is c.in_ok-reshape_dim_c-in-RowMajor.ensures
 
 turned : (ls ss ms : List ℕ) (f : Fault) → Err f ≡ regrouped (reverse ls) (signed (reverse ss)) (reverse ms) → Err f ≡ regrouped_in ColumnMajor ls (signed ss) ms
 turned ls ss ms f h = ap backward (h ∙ ap (λ x. regrouped (reverse ls) x (reverse ms)) (signed-reverse ss))
@@ -40,19 +40,19 @@ turned_ok : (ls ss ms out : List ℕ) → Ok (signed (reverse out)) ≡ regroupe
 turned_ok ls ss ms out h =
     ap Ok (sym (reverse-reverse (signed out)) ∙ ap reverse (sym (signed-reverse out))) ∙ ap backward (h ∙ ap (λ x. regrouped (reverse ls) x (reverse ms)) (signed-reverse ss))
 
-pub returns-in-err-reshape-dim-c-2 : goal.returns-in-err-reshape-dim-c-2
-returns-in-err-reshape-dim-c-2 g c =
-    let p = err_from_is_err_and c.from-residual-in-err-reshape-dim-c-2.result c.from-residual-in-err-reshape-dim-c-2.ensures.1 in
+pub returns-in_err-reshape_dim_c-in-ColumnMajor : goal.returns-in_err-reshape_dim_c-in-ColumnMajor
+returns-in_err-reshape_dim_c-in-ColumnMajor g c =
+    let p = err_from_is_err_and c.from_residual-in_err-reshape_dim_c-in-ColumnMajor.result c.from_residual-in_err-reshape_dim_c-in-ColumnMajor.ensures.1 in
     let is = c.in-ColumnMajor.is in
     let ls = g.F.Dimension.words c.args.from.now in
     let ss = g.S.Dimension.words c.args.strides.now in
     let ms = g.E.Dimension.words c.args.to.now in
-    rw (p.1, p.2, is) (turned ls ss ms (row_fault c.in-err-reshape-dim-c-2.field-0.0) c.in-err-reshape-dim-c-2.ensures)
+    rw (p.1, p.2, is) (turned ls ss ms (row_fault c.in_err-reshape_dim_c-in-ColumnMajor.field-0.0) c.in_err-reshape_dim_c-in-ColumnMajor.ensures)
 
-pub returns-in-ok-reshape-dim-c-2 : goal.returns-in-ok-reshape-dim-c-2
-returns-in-ok-reshape-dim-c-2 g c =
+pub returns-in_ok-reshape_dim_c-in-ColumnMajor : goal.returns-in_ok-reshape_dim_c-in-ColumnMajor
+returns-in_ok-reshape_dim_c-in-ColumnMajor g c =
     let is = c.in-ColumnMajor.is in
     let ls = g.F.Dimension.words c.args.from.now in
     let ss = g.S.Dimension.words c.args.strides.now in
     let ms = g.E.Dimension.words c.args.to.now in
-    rw is (turned_ok ls ss ms (listed c.reshape-dim-c-in-ColumnMajor.new.out.0) c.in-ok-reshape-dim-c-2.ensures)
+    rw is (turned_ok ls ss ms (listed c.reshape_dim_c-in-ColumnMajor.new.out.0) c.in_ok-reshape_dim_c-in-ColumnMajor.ensures)

@@ -11,13 +11,13 @@ returns-then-size-eq0 g c =
     let zs = signed (g.S.Dimension.words c.args.strides.now) in
     let ms = g.E.Dimension.words c.args.to.now in
     record {
-      answer = none (order_of c.args.order) ls zs ms c.in-ok-size.size c.zeros.result c.if-not-gridlike.ensures c.in-ok-size.ensures c.if-size-eq0.true
+      answer = none (order_of c.args.order) ls zs ms c.in_ok-size.size c.zeros.result c.if-not-gridlike.ensures c.in_ok-size.ensures c.if-size-eq0.true
           (c.zeros.ensures ∙ ap (λ (n : ℕ). zeros n) c.ndim.ensures);
     }
 
-pub regrouped-in-requires : goal.regrouped-in-requires
-regrouped-in-requires g c =
+pub regrouped_in-requires : goal.regrouped_in-requires
+regrouped_in-requires g c =
     let ls = g.F.Dimension.words c.args.from.now in
     let zs = signed (g.S.Dimension.words c.args.strides.now) in
     let ms = g.E.Dimension.words c.args.to.now in
-    ready ls zs ms c.in-ok-size.size c.if-not-gridlike.ensures c.in-ok-size.ensures c.if-size-eq0.false
+    ready ls zs ms c.in_ok-size.size c.if-not-gridlike.ensures c.in_ok-size.ensures c.if-size-eq0.false

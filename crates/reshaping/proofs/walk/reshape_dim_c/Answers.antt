@@ -18,16 +18,16 @@ loop-fi-init g c = (
 pub turn-requires : goal.turn-requires
 turn-requires g c = record { old = omega arith; new = omega arith; even = sym (length-map (g.S.Dimension.words c.args.strides.now) (λ w. to_z w64 w)) ∙ near-length (g.F.Dimension.words c.args.from.now) (signed (g.S.Dimension.words c.args.strides.now)) c.requires.ready.near; room = c.loop-fi.invariant.1; ready = c.loop-fi.invariant.0.ready }
 
-pub returns-in-err-old : goal.returns-in-err-old
-returns-in-err-old g c =
-    let p = err_from_is_err_and c.from-residual.result c.from-residual.ensures.1 in
+pub returns-in_err-old : goal.returns-in_err-old
+returns-in_err-old g c =
+    let p = err_from_is_err_and c.from_residual.result c.from_residual.ensures.1 in
     rw (p.1, p.2) (walking_refused (g.F.Dimension.words c.args.from.now) (signed (g.S.Dimension.words c.args.strides.now)) (g.E.Dimension.words c.args.to.now) c.loop-fi.fi c.loop-fi.ti
-    (signed (g.T.Dimension.words c.loop-fi.out)) c.loop-fi.invariant.0 (row_fault c.in-err-old.field-0.0) (omega arith) c.in-err-old.ensures)
+    (signed (g.T.Dimension.words c.loop-fi.out)) c.loop-fi.invariant.0 (row_fault c.in_err-old.field-0.0) (omega arith) c.in_err-old.ensures)
 
 pub loop-fi-smaller : goal.loop-fi-smaller
 loop-fi-smaller g c =
     let s : Step (g.F.Dimension.words c.args.from.now) (signed (g.S.Dimension.words c.args.strides.now)) (g.E.Dimension.words c.args.to.now) c.loop-fi.fi c.loop-fi.ti
-    (signed (g.T.Dimension.words c.loop-fi.out)) (signed (g.T.Dimension.words c.turn.new.out)) c.in-ok-old.old c.in-ok-old.new = c.in-ok-old.ensures in
+    (signed (g.T.Dimension.words c.loop-fi.out)) (signed (g.T.Dimension.words c.turn.new.out)) c.in_ok-old.old c.in_ok-old.new = c.in_ok-old.ensures in
     let on = s.on in
     let old_in = s.old_in in
     let new_in = s.new_in in
@@ -36,14 +36,14 @@ loop-fi-smaller g c =
 pub loop-fi-preserved : goal.loop-fi-preserved
 loop-fi-preserved g c =
     let s : Step (g.F.Dimension.words c.args.from.now) (signed (g.S.Dimension.words c.args.strides.now)) (g.E.Dimension.words c.args.to.now) c.loop-fi.fi c.loop-fi.ti
-    (signed (g.T.Dimension.words c.loop-fi.out)) (signed (g.T.Dimension.words c.turn.new.out)) c.in-ok-old.old c.in-ok-old.new = c.in-ok-old.ensures in (
+    (signed (g.T.Dimension.words c.loop-fi.out)) (signed (g.T.Dimension.words c.turn.new.out)) c.in_ok-old.old c.in_ok-old.new = c.in_ok-old.ensures in (
       walking_on (g.F.Dimension.words c.args.from.now) (signed (g.S.Dimension.words c.args.strides.now)) (g.E.Dimension.words c.args.to.now) c.loop-fi.fi c.loop-fi.ti
-          (signed (g.T.Dimension.words c.loop-fi.out)) c.loop-fi.invariant.0 (signed (g.T.Dimension.words c.turn.new.out)) c.in-ok-old.old c.in-ok-old.new (omega arith) (omega arith) s,
+          (signed (g.T.Dimension.words c.loop-fi.out)) c.loop-fi.invariant.0 (signed (g.T.Dimension.words c.turn.new.out)) c.in_ok-old.old c.in_ok-old.new (omega arith) (omega arith) s,
       sym (length-map (g.T.Dimension.words c.turn.new.out) (λ w. to_z w64 w)) ∙ s.long ∙ length-map (g.T.Dimension.words c.loop-fi.out) (λ w. to_z w64 w) ∙ c.loop-fi.invariant.1,
     )
 
-pub fill-ones-requires : goal.fill-ones-requires
-fill-ones-requires g c = let new_in = c.loop-fi.invariant.0.new_in in let room = c.loop-fi.invariant.1 in omega arith
+pub fill_ones-requires : goal.fill_ones-requires
+fill_ones-requires g c = let new_in = c.loop-fi.invariant.0.new_in in let room = c.loop-fi.invariant.1 in omega arith
 
 pub returns : goal.returns
 returns g c =
@@ -57,5 +57,5 @@ returns g c =
       | then-loop-fi-test+else-ti-ndim w ↦ inr (omega arith)
       | else-loop-fi-test w ↦ inl (omega arith)
     ] in
-    ap Ok (c.fill-ones.ensures ∙ ap (λ n. take j (signed out) ++ replicate (n - j) (pos 1)) (sym long))
+    ap Ok (c.fill_ones.ensures ∙ ap (λ n. take j (signed out) ++ replicate (n - j) (pos 1)) (sym long))
     ∙ walking_done ls (signed (g.S.Dimension.words c.args.strides.now)) ms i j (signed out) c.loop-fi.invariant.0 stop (long ∙ c.loop-fi.invariant.1)

@@ -6,8 +6,8 @@ use Rattle.selection.proofs.resolving.entry_count.Goals as goal
 
 pub returns : goal.returns
 returns c =
-    let wide = c.saturating-sub.result in
-    let size = c.unsigned-abs-size.result in
+    let wide = c.saturating_sub.result in
+    let size = c.unsigned_abs-size.result in
     let fits : SFits w64 c.args.step = c.ranges.step in
-    let is : size ≡ nat_abs c.args.step = simp to_z-of_z at c.unsigned-abs-size.ensures.value in
-    c.div-ceil.ensures ∙ rounds_up wide size (omega arith) ∙ ap (rounded_up wide) is ∙ ap (λ m. rounded_up m (nat_abs c.args.step)) c.saturating-sub.ensures
+    let is : size ≡ nat_abs c.args.step = simp to_z-of_z at c.unsigned_abs-size.ensures.value in
+    c.div_ceil.ensures ∙ rounds_up wide size (omega arith) ∙ ap (rounded_up wide) is ∙ ap (λ m. rounded_up m (nat_abs c.args.step)) c.saturating_sub.ensures

@@ -12,8 +12,8 @@ loop-place-preserved g c =
     let l : i < length ws = omega arith in
     let few : length ws ≤ 8 = (g.D.Dimension.owed c.args.row.now).few in
     let m : i < length c.loop-place.cells = omega (arith, c.loop-place.invariant.1) in
-    let w = c.word-at.result in (
-      take_more_set c.loop-place.cells i w m ∙ ap (λ r. r ++ w ∷ []) c.loop-place.invariant.0 ∙ ap (λ n. take i ws ++ n ∷ []) c.word-at.ensures ∙ sym (take_more ws i 0 l),
+    let w = c.word_at.result in (
+      take_more_set c.loop-place.cells i w m ∙ ap (λ r. r ++ w ∷ []) c.loop-place.invariant.0 ∙ ap (λ n. take i ws ++ n ∷ []) c.word_at.ensures ∙ sym (take_more ws i 0 l),
       length-set c.loop-place.cells i w ∙ c.loop-place.invariant.1,
     )
 
