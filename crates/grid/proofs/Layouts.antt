@@ -24,17 +24,26 @@ sound l =
 
 -- the facts that a layout's type keeps, in their order
 abbrev pub Kept : ℕ → ℕ → List ℕ → List ℤ → Type 0
-Kept cells start ls zs =
-    Bounds cells (pos start) ls zs
-    × (Distinct ls zs
-    × ((cells ≤ 1048576)
-    × ((nonzeros ls ≤ 1048576)
-    × ((down ls zs ≤ start)
-    × ((start + up ls zs ≤ cells)
-    × ((length ls ≡ length zs) × Unit {0}))))))
+Kept cells start ls zs = record {
+  bounds : Bounds cells (pos start) ls zs;
+  distinct : Distinct ls zs;
+  narrow : cells ≤ 1048576;
+  small : nonzeros ls ≤ 1048576;
+  low : down ls zs ≤ start;
+  high : start + up ls zs ≤ cells;
+  paired : length ls ≡ length zs;
+}
 
 pub kept : (cells start : ℕ) (ls : List ℕ) (zs : List ℤ) → Sound (record { cells = cells; start = pos start; lens = ls; strides = zs }) → Kept cells start ls zs
 kept cells start ls zs s =
     let low = s.low in
     let high = s.high in
-    (s.bounds, (s.distinct, (s.narrow, (s.small, (omega (arith, ints), (omega (arith, ints), (s.paired, tt)))))))
+    record {
+      bounds = s.bounds;
+      distinct = s.distinct;
+      narrow = s.narrow;
+      small = s.small;
+      low = omega (arith, ints);
+      high = omega (arith, ints);
+      paired = s.paired;
+    }

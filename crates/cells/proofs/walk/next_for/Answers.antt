@@ -15,7 +15,7 @@ overflow-add-next g c =
     let ls = g.D.Dimension.words c.args.dim.now in
     let ix = g.D.Dimension.words c.loop-axis.index in
     let below : c.word-at-next.result < c.word-at-length.result = omega (arith, within_at ix ls (c.loop-axis.axis - 1) c.loop-axis.invariant.0 (omega arith)) in
-    let fits = c.word-at-length.type-inv in
+    let fits = c.word-at-length.type_inv in
     search rules
 
 pub loop-axis-preserved : goal.loop-axis-preserved

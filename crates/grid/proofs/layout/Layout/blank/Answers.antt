@@ -7,11 +7,11 @@ use Rattle.dimension.specs.Rows.{listed}
 use Rattle.grid.proofs.Layouts.{kept}
 use Rattle.grid.proofs.layout.Layout.blank.Goals as goal
 
-pub invariant-of-result : goal.invariant-of-result
-invariant-of-result c =
-    let row = c.copy-of-row.result in
+pub invariant_of-result : goal.invariant_of-result
+invariant_of-result c =
+    let row = c.copy_of-row.result in
     kept 0 0 (listed row) (signed (listed row))
-    (subst (λ (xs : List ℕ). Sound (fresh 0 xs (signed xs))) (sym c.copy-of-row.ensures) (ordered_sound_row 0 (0 ∷ []) (lit≤ tt) (lit≤ tt) (lit≤ tt) (lit≤ tt)))
+    (subst (λ (xs : List ℕ). Sound (fresh 0 xs (signed xs))) (sym c.copy_of-row.ensures) (ordered_sound_row 0 (0 ∷ []) (lit≤ tt) (lit≤ tt) (lit≤ tt) (lit≤ tt)))
 
 pub returns : goal.returns
-returns c = ap (λ (xs : List ℕ). fresh 0 xs (signed xs)) c.copy-of-row.ensures
+returns c = ap (λ (xs : List ℕ). fresh 0 xs (signed xs)) c.copy_of-row.ensures

@@ -36,8 +36,8 @@ loop-place-preserved c =
     let i = c.loop-place.place in
     let long = length-signed (listed s.strides) in
     let here : get_or ix i 0 < get_or ls i 0 = omega arith in
-    let read = stride_read (listed s.strides) i c.word-at-stride.result (omega (arith, s.paired)) c.word-at-stride.ensures in (
-      cell_step (seen s) (sound s) ix i c.loop-place.at c.loop-place.invariant.0 (omega arith) (omega arith) here (get_or ix i 0) c.word-at-stride.result c.stride-offset-at.result refl read c.stride-offset-at.ensures.law,
+    let read = stride_read (listed s.strides) i c.word_at-stride.result (omega (arith, s.paired)) c.word_at-stride.ensures in (
+      cell_step (seen s) (sound s) ix i c.loop-place.at c.loop-place.invariant.0 (omega arith) (omega arith) here (get_or ix i 0) c.word_at-stride.result c.stride_offset-at.result refl read c.stride_offset-at.ensures.law,
       below_more (λ k. get_or ix k 0 < get_or ls k 0) i c.loop-place.invariant.1 here,
     )
 

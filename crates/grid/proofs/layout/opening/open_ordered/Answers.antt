@@ -13,33 +13,33 @@ use Rattle.grid.proofs.Layouts.{kept}
 use Rattle.grid.proofs.Opening.{ordered_sound, signed-order}
 use Rattle.grid.proofs.layout.opening.open_ordered.Goals as goal
 
-pub invariant-of-result : goal.invariant-of-result
-invariant-of-result g c =
+pub invariant_of-result : goal.invariant_of-result
+invariant_of-result g c =
     let cells = c.args.cells in
     let ls = g.D.Dimension.words c.args.dim.now in
     let few : length ls ≤ 8 = (g.D.Dimension.owed c.args.dim.now).few in
-    let narrow = (went_on (λ u. u) Open (ltb limit cells) (in_rows 12) tt c.check-cells.result c.in-ok-at-call.field-0 c.in-ok-at-call.ensures c.check-cells.ensures).0 in
-    let size = (went_on (λ n. n) Open (ltb most (nonzeros ls)) (in_rows 6) (product ls) c.size-of-shape-checked.result c.in-ok-size.size c.in-ok-size.ensures c.size-of-shape-checked.ensures).1 in
-    let small = (went_on (λ u. u) Open (ltb limit (nonzeros ls)) (in_rows 12) tt c.check-lengths.result c.in-ok-at-call-2.field-0 c.in-ok-at-call-2.ensures c.check-lengths.ensures).0 in
-    let row = (went_on listed Open (ltb most (nonzeros (listed c.copy-of-lens.result))) (in_rows 6) (in_order c.args.order (listed c.copy-of-lens.result)) c.strides-in.result c.in-ok-strides.strides c.in-ok-strides.ensures c.strides-in.ensures).1 in
-    let zs : signed (listed c.in-ok-strides.strides) ≡ map pos (in_order c.args.order ls) =
-    ap signed (row ∙ ap (in_order c.args.order) c.copy-of-lens.ensures) ∙ signed-order c.args.order ls small in
+    let narrow = (went_on (λ u. u) Open (ltb limit cells) (in_rows 12) tt c.check_cells.result c.in_ok-at_call.field-0 c.in_ok-at_call.ensures c.check_cells.ensures).0 in
+    let size = (went_on (λ n. n) Open (ltb most (nonzeros ls)) (in_rows 6) (product ls) c.size_of_shape_checked.result c.in_ok-size.size c.in_ok-size.ensures c.size_of_shape_checked.ensures).1 in
+    let small = (went_on (λ u. u) Open (ltb limit (nonzeros ls)) (in_rows 12) tt c.check_lengths.result c.in_ok-at_call-2.field-0 c.in_ok-at_call-2.ensures c.check_lengths.ensures).0 in
+    let row = (went_on listed Open (ltb most (nonzeros (listed c.copy_of-lens.result))) (in_rows 6) (in_order c.args.order (listed c.copy_of-lens.result)) c.strides_in.result c.in_ok-strides.strides c.in_ok-strides.ensures c.strides_in.ensures).1 in
+    let zs : signed (listed c.in_ok-strides.strides) ≡ map pos (in_order c.args.order ls) =
+    ap signed (row ∙ ap (in_order c.args.order) c.copy_of-lens.ensures) ∙ signed-order c.args.order ls small in
     let sound = ordered_sound c.args.order cells ls few narrow small (omega arith) in
-    kept cells 0 (listed c.copy-of-lens.result) (signed (listed c.in-ok-strides.strides))
-    (subst (λ (xs : List ℕ). Sound (fresh cells xs (signed (listed c.in-ok-strides.strides)))) (sym c.copy-of-lens.ensures)
+    kept cells 0 (listed c.copy_of-lens.result) (signed (listed c.in_ok-strides.strides))
+    (subst (λ (xs : List ℕ). Sound (fresh cells xs (signed (listed c.in_ok-strides.strides)))) (sym c.copy_of-lens.ensures)
     (subst (λ (ys : List ℤ). Sound (fresh cells ls ys)) (sym zs) sound))
 
 pub returns : goal.returns
 returns g c =
     let cells = c.args.cells in
     let ls = g.D.Dimension.words c.args.dim.now in
-    let narrow = (went_on (λ u. u) Open (ltb limit cells) (in_rows 12) tt c.check-cells.result c.in-ok-at-call.field-0 c.in-ok-at-call.ensures c.check-cells.ensures).0 in
-    let sized = went_on (λ n. n) Open (ltb most (nonzeros ls)) (in_rows 6) (product ls) c.size-of-shape-checked.result c.in-ok-size.size c.in-ok-size.ensures c.size-of-shape-checked.ensures in
+    let narrow = (went_on (λ u. u) Open (ltb limit cells) (in_rows 12) tt c.check_cells.result c.in_ok-at_call.field-0 c.in_ok-at_call.ensures c.check_cells.ensures).0 in
+    let sized = went_on (λ n. n) Open (ltb most (nonzeros ls)) (in_rows 6) (product ls) c.size_of_shape_checked.result c.in_ok-size.size c.in_ok-size.ensures c.size_of_shape_checked.ensures in
     let fits = sized.0 in
     let size = sized.1 in
-    let small = (went_on (λ u. u) Open (ltb limit (nonzeros ls)) (in_rows 12) tt c.check-lengths.result c.in-ok-at-call-2.field-0 c.in-ok-at-call-2.ensures c.check-lengths.ensures).0 in
+    let small = (went_on (λ u. u) Open (ltb limit (nonzeros ls)) (in_rows 12) tt c.check_lengths.result c.in_ok-at_call-2.field-0 c.in_ok-at_call-2.ensures c.check_lengths.ensures).0 in
     let enough : ltb cells (product ls) ≡ false = le-ltb _ _ (omega arith) in
-    let row = (went_on listed Open (ltb most (nonzeros (listed c.copy-of-lens.result))) (in_rows 6) (in_order c.args.order (listed c.copy-of-lens.result)) c.strides-in.result c.in-ok-strides.strides c.in-ok-strides.ensures c.strides-in.ensures).1 in
-    let zs : signed (listed c.in-ok-strides.strides) ≡ map pos (in_order c.args.order ls) =
-    ap signed (row ∙ ap (in_order c.args.order) c.copy-of-lens.ensures) ∙ signed-order c.args.order ls small in
-    rw (narrow, fits, small, enough) (ap (λ (s : Seen). Ok s) (ap₂ (fresh cells) c.copy-of-lens.ensures zs))
+    let row = (went_on listed Open (ltb most (nonzeros (listed c.copy_of-lens.result))) (in_rows 6) (in_order c.args.order (listed c.copy_of-lens.result)) c.strides_in.result c.in_ok-strides.strides c.in_ok-strides.ensures c.strides_in.ensures).1 in
+    let zs : signed (listed c.in_ok-strides.strides) ≡ map pos (in_order c.args.order ls) =
+    ap signed (row ∙ ap (in_order c.args.order) c.copy_of-lens.ensures) ∙ signed-order c.args.order ls small in
+    rw (narrow, fits, small, enough) (ap (λ (s : Seen). Ok s) (ap₂ (fresh cells) c.copy_of-lens.ensures zs))

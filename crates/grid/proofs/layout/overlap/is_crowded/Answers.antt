@@ -14,5 +14,5 @@ returns g c =
     let within : k < length ls = get_or-within ls k (omega arith) in
     let long : ltb 1 (get_or ls k 0) ≡ true = lt-ltb _ _ (omega arith) in
     let size : c.magnitude-step.result ≡ nat_abs (get_or (signed ws) k (pos 0)) =
-    c.magnitude-step.ensures ∙ ap (λ w. nat_abs (to_z w64 w)) c.word-at-2.ensures ∙ ap nat_abs (sym (signed_at ws k (omega (arith, c.requires.rank)))) in
-    rw long (ap (leb c.magnitude-step.result) c.span-others.ensures ∙ ap (λ m. leb m (span_others k m ls (signed ws))) size)
+    c.magnitude-step.ensures ∙ ap (λ w. nat_abs (to_z w64 w)) c.word_at-2.ensures ∙ ap nat_abs (sym (signed_at ws k (omega (arith, c.requires.rank)))) in
+    rw long (ap (leb c.magnitude-step.result) c.span_others.ensures ∙ ap (λ m. leb m (span_others k m ls (signed ws))) size)

@@ -3,8 +3,8 @@ use Rattle.std.proofs.lemmas.Bool.{eq-eqb, ne_eqb}
 use Rattle.laws.proofs.Lists.{some-here, some_more, some_none}
 use Rattle.grid.proofs.layout.overlap.is_empty.Goals as goal
 
-pub returns-then-word-at-eq0 : goal.returns-then-word-at-eq0
-returns-then-word-at-eq0 g c =
+pub returns-then-word_at-eq0 : goal.returns-then-word_at-eq0
+returns-then-word_at-eq0 g c =
     let ws = g.D.Dimension.words c.args.dim.now in
     sym (some-here (λ n. eqb n 0) ws c.loop-place.place 0 (omega arith) (eq-eqb _ _ (omega arith))) ∙ c.loop-place.invariant
 

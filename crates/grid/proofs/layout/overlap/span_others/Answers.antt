@@ -16,31 +16,31 @@ loop-place-init g c =
     ap (λ (i : ℕ). parts_from 0 i c.args.most ls zs) (sym zero) ∙ parts_are 0 k c.args.most ls zs in
     omega arith
 
-pub axis-share-far-requires : goal.axis-share-far-requires
-axis-share-far-requires g c =
+pub axis_share-far-requires : goal.axis_share-far-requires
+axis_share-far-requires g c =
     let ls = g.D.Dimension.words c.args.dim.now in
     let ws = g.S.Dimension.words c.args.strides.now in
     let i = c.loop-place.place in
     let long = length-signed ws in
     let axis = reach_at nat_abs ls (signed ws) i (omega (arith, c.requires.rank)) in
     let size : c.magnitude-step.result ≡ nat_abs (get_or (signed ws) i (pos 0)) =
-    c.magnitude-step.ensures ∙ ap (λ w. nat_abs (to_z w64 w)) c.word-at.ensures ∙ ap nat_abs (sym (signed_at ws i (omega (arith, c.requires.rank)))) in
-    let is : (c.word-at-in-loop-place.result - 1) * c.magnitude-step.result ≡ (get_or ls i 0 - 1) * nat_abs (get_or (signed ws) i (pos 0)) =
-    ap (λ n. (n - 1) * c.magnitude-step.result) c.word-at-in-loop-place.ensures ∙ ap (λ n. (get_or ls i 0 - 1) * n) size in
+    c.magnitude-step.ensures ∙ ap (λ w. nat_abs (to_z w64 w)) c.word_at.ensures ∙ ap nat_abs (sym (signed_at ws i (omega (arith, c.requires.rank)))) in
+    let is : (c.word_at-in-loop-place.result - 1) * c.magnitude-step.result ≡ (get_or ls i 0 - 1) * nat_abs (get_or (signed ws) i (pos 0)) =
+    ap (λ n. (n - 1) * c.magnitude-step.result) c.word_at-in-loop-place.ensures ∙ ap (λ n. (get_or ls i 0 - 1) * n) size in
     omega (arith, c.requires.fits)
 
-pub overflow-add-far : goal.overflow-add-far
-overflow-add-far g c =
+pub overflow_add-far : goal.overflow_add-far
+overflow_add-far g c =
     let ls = g.D.Dimension.words c.args.dim.now in
     let ws = g.S.Dimension.words c.args.strides.now in
-    let step = parts_step c.args.axis c.args.most c.loop-place.place c.word-at-in-loop-place.result c.magnitude-step.result c.axis-share-far.result c.loop-place.far (span_others c.args.axis c.args.most ls (signed ws)) ls ws (omega arith) c.requires.rank c.word-at-in-loop-place.ensures (c.magnitude-step.ensures ∙ ap (λ w. nat_abs (to_z w64 w)) c.word-at.ensures) c.axis-share-far.ensures c.loop-place.invariant in
+    let step = parts_step c.args.axis c.args.most c.loop-place.place c.word_at-in-loop-place.result c.magnitude-step.result c.axis_share-far.result c.loop-place.far (span_others c.args.axis c.args.most ls (signed ws)) ls ws (omega arith) c.requires.rank c.word_at-in-loop-place.ensures (c.magnitude-step.ensures ∙ ap (λ w. nat_abs (to_z w64 w)) c.word_at.ensures) c.axis_share-far.ensures c.loop-place.invariant in
     omega (arith, c.requires.fits, others_below c.args.axis c.args.most ls (signed ws))
 
 pub loop-place-preserved : goal.loop-place-preserved
 loop-place-preserved g c =
     let ls = g.D.Dimension.words c.args.dim.now in
     let ws = g.S.Dimension.words c.args.strides.now in
-    parts_step c.args.axis c.args.most c.loop-place.place c.word-at-in-loop-place.result c.magnitude-step.result c.axis-share-far.result c.loop-place.far (span_others c.args.axis c.args.most ls (signed ws)) ls ws (omega arith) c.requires.rank c.word-at-in-loop-place.ensures (c.magnitude-step.ensures ∙ ap (λ w. nat_abs (to_z w64 w)) c.word-at.ensures) c.axis-share-far.ensures c.loop-place.invariant
+    parts_step c.args.axis c.args.most c.loop-place.place c.word_at-in-loop-place.result c.magnitude-step.result c.axis_share-far.result c.loop-place.far (span_others c.args.axis c.args.most ls (signed ws)) ls ws (omega arith) c.requires.rank c.word_at-in-loop-place.ensures (c.magnitude-step.ensures ∙ ap (λ w. nat_abs (to_z w64 w)) c.word_at.ensures) c.axis_share-far.ensures c.loop-place.invariant
 
 pub returns : goal.returns
 returns g c =

@@ -7,4 +7,4 @@ use Rattle.grid.proofs.layout.slicing.cut_elem.Goals as goal
 pub returns-in-NewAxis : goal.returns-in-NewAxis
 returns-in-NewAxis c = λ es u split.
     let new = split ∙ ap (λ (x : SliceInfoElem). elem_of x ∷ drop (c.args.place + 1) es) c.in-NewAxis.is in
-    under_new c.args.grid.now es c.args.place c.args.cut u new c.with-axis.result c.with-axis.ensures.axis c.with-axis.ensures.start c.with-axis.ensures.lens c.with-axis.ensures.strides
+    under_new c.args.grid.now es c.args.place c.args.cut u new c.with_axis.result c.with_axis.ensures.axis c.with_axis.ensures.start c.with_axis.ensures.lens c.with_axis.ensures.strides

@@ -4,21 +4,21 @@ use Rattle.std.proofs.lemmas.Bool.{lt-leb}
 use Rattle.grid.proofs.Products.{product_fits, product-read}
 use Rattle.grid.proofs.layout.slicing.cut_stride.Goals as goal
 
-pub overflow-mul-cast-signed : goal.overflow-mul-cast-signed
-overflow-mul-cast-signed c =
+pub overflow_mul-cast_signed : goal.overflow_mul-cast_signed
+overflow_mul-cast_signed c =
     let z = to_z w64 c.args.stride in
     let small : nat_abs z ≤ 1048576 = c.requires.stride c.if-count-le1.false in
-    subst (λ (x : ℤ). SFits w64 x) (sym (product-read c.cast-signed.result c.args.step z c.args.step (record { sfits = c.cast-signed.type-inv }) c.ranges.step c.cast-signed.ensures refl))
+    subst (λ (x : ℤ). SFits w64 x) (sym (product-read c.cast_signed.result c.args.step z c.args.step (record { sfits = c.cast_signed.type_inv }) c.ranges.step c.cast_signed.ensures refl))
     (product_fits z c.args.step small c.requires.step)
 
 pub returns : goal.returns
 returns c =
     let z = to_z w64 c.args.stride in
     let small : nat_abs z ≤ 1048576 = c.requires.stride c.if-count-le1.false in
-    let is = product-read c.cast-signed.result c.args.step z c.args.step (record { sfits = c.cast-signed.type-inv }) c.ranges.step c.cast-signed.ensures refl in
+    let is = product-read c.cast_signed.result c.args.step z c.args.step (record { sfits = c.cast_signed.type_inv }) c.ranges.step c.cast_signed.ensures refl in
     let fits = product_fits z c.args.step small c.requires.step in
     let many : leb c.args.count 1 ≡ false = lt-leb _ _ c.if-count-le1.false in
     rw many
-    (ap (to_z w64) (c.cast-unsigned.ensures ∙ ap (λ (x : ℤ). of_z w64 (to_z w64 (of_z w64 x))) is)
+    (ap (to_z w64) (c.cast_unsigned.ensures ∙ ap (λ (x : ℤ). of_z w64 (to_z w64 (of_z w64 x))) is)
     ∙ to_z-of_z w64 (to_z w64 (of_z w64 (z *ℤ c.args.step))) (subst (λ (x : ℤ). SFits w64 x) (sym (to_z-of_z w64 (z *ℤ c.args.step) fits)) fits)
     ∙ to_z-of_z w64 (z *ℤ c.args.step) fits)
