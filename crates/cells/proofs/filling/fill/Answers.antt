@@ -13,30 +13,30 @@ use Rattle.cells.proofs.filling.fill.Goals as goal
 
 pub loop-next-init : goal.loop-next-init
 loop-next-init g c =
-    let r = c.first-index-next.result in
-    let first = subst (λ (ls : List ℕ). MatchOption r (product ls ≡ 0) (λ ix. Within (listed ix) ls × (place (listed ix) ls ≡ 0))) c.lens-lens.ensures c.first-index-next.ensures in
+    let r = c.first_index-next.result in
+    let first = subst (λ (ls : List ℕ). MatchOption r (product ls ≡ 0) (λ ix. Within (listed ix) ls × (place (listed ix) ls ≡ 0))) c.lens-lens.ensures c.first_index-next.ensures in
     going_none (seen c.args.layout.now) c.args.value listed c.args.cells.now r first
 
 pub loop-next-smaller : goal.loop-next-smaller
 loop-next-smaller g c =
     let s = seen c.args.layout.now in
-    let r = c.next-for-next.result in
+    let r = c.next_for-next.result in
     let ix = listed c.in-Some.index in
     let going = subst (λ (o : Option IxDyn). Going s c.args.value listed c.args.cells.now c.loop-next.cells o) c.in-Some.is c.loop-next.invariant in
-    let more = subst (λ (ls : List ℕ). MatchOption r (place ix ls + 1 ≡ product ls) (λ jx. Within (listed jx) ls × (place (listed jx) ls ≡ place ix ls + 1))) c.lens-lens.ensures c.next-for-next.ensures in
+    let more = subst (λ (ls : List ℕ). MatchOption r (place ix ls + 1 ≡ product ls) (λ jx. Within (listed jx) ls × (place (listed jx) ls ≡ place ix ls + 1))) c.lens-lens.ensures c.next_for-next.ensures in
     subst (λ (o : Option IxDyn). left listed s.lens r < left listed s.lens o) (sym c.in-Some.is) (left_less listed s.lens ix r going.0 more)
 
 pub loop-next-preserved : goal.loop-next-preserved
 loop-next-preserved g c =
     let l = c.args.layout.now in
     let s = seen l in
-    let r = c.next-for-next.result in
+    let r = c.next_for-next.result in
     let ix = listed c.in-Some.index in
     let whole : length c.args.cells.now ≡ s.cells = omega arith in
     let going = subst (λ (o : Option IxDyn). Going s c.args.value listed c.args.cells.now c.loop-next.cells o) c.in-Some.is c.loop-next.invariant in
-    let more = subst (λ (ls : List ℕ). MatchOption r (place ix ls + 1 ≡ product ls) (λ jx. Within (listed jx) ls × (place (listed jx) ls ≡ place ix ls + 1))) c.lens-lens.ensures c.next-for-next.ensures in
-    let reach : Reaches s ix c.cell-of-at.result = record { within = going.0; here = c.cell-of-at.ensures.here } in
-    going_more s c.args.value listed c.args.cells.now _ r (place ix s.lens) (upto_more s c.args.value c.args.cells.now c.loop-next.cells ix c.cell-of-at.result (sound l) whole reach going.1) more
+    let more = subst (λ (ls : List ℕ). MatchOption r (place ix ls + 1 ≡ product ls) (λ jx. Within (listed jx) ls × (place (listed jx) ls ≡ place ix ls + 1))) c.lens-lens.ensures c.next_for-next.ensures in
+    let reach : Reaches s ix c.cell_of-at.result = record { within = going.0; here = c.cell_of-at.ensures.here } in
+    going_more s c.args.value listed c.args.cells.now _ r (place ix s.lens) (upto_more s c.args.value c.args.cells.now c.loop-next.cells ix c.cell_of-at.result (sound l) whole reach going.1) more
 
 pub returns : goal.returns
 returns g c =
@@ -44,6 +44,6 @@ returns g c =
     let s = seen l in
     let whole : length c.args.cells.now ≡ s.cells = omega arith in
     let same : eqb (length c.args.cells.now) s.cells ≡ true = eq-eqb _ _ whole in
-    let going = subst (λ (o : Option IxDyn). Going s c.args.value listed c.args.cells.now c.loop-next.cells o) c.in-default.is c.loop-next.invariant in
+    let going = subst (λ (o : Option IxDyn). Going s c.args.value listed c.args.cells.now c.loop-next.cells o) c.in_default.is c.loop-next.invariant in
     let done = upto_all s c.args.value c.args.cells.now c.loop-next.cells going in
     record { answer = rw same; after = filled_is s c.args.value c.args.cells.now c.loop-next.cells (sound l) whole done; law = done }

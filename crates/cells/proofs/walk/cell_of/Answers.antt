@@ -22,10 +22,10 @@ loop-axis-preserved c =
     let len = within-length ix s.lens c.requires in
     let row : length ws ≡ length s.strides = sym (length-signed ws) ∙ ap length c.strides-strides.ensures in
     let here : i < length ws = omega (arith, (sound l).paired) in
-    let read : to_z w64 c.word-at-stride.result ≡ get_or s.strides i (pos 0) =
-    stride_read ws i c.word-at-stride.result here c.word-at-stride.ensures ∙ ap (λ zs. get_or zs i (pos 0)) c.strides-strides.ensures in
+    let read : to_z w64 c.word_at-stride.result ≡ get_or s.strides i (pos 0) =
+    stride_read ws i c.word_at-stride.result here c.word_at-stride.ensures ∙ ap (λ zs. get_or zs i (pos 0)) c.strides-strides.ensures in
     cell_step s (sound l) ix i c.loop-axis.at c.loop-axis.invariant len (omega arith) (within_at ix s.lens i c.requires (omega arith))
-    c.word-at.result c.word-at-stride.result c.stride-offset-at.result c.word-at.ensures read c.stride-offset-at.ensures.law
+    c.word_at.result c.word_at-stride.result c.stride_offset-at.result c.word_at.ensures read c.stride_offset-at.ensures.law
 
 pub returns : goal.returns
 returns c =

@@ -6,8 +6,8 @@ use Rattle.cells.proofs.walk.first_index.Goals as goal
 pub loop-axis-init : goal.loop-axis-init
 loop-axis-init g c = (refl, refl, λ j h. absurd (omega arith))
 
-pub returns-then-word-at-eq0 : goal.returns-then-word-at-eq0
-returns-then-word-at-eq0 g c =
+pub returns-then-word_at-eq0 : goal.returns-then-word_at-eq0
+returns-then-word_at-eq0 g c =
     let ls = g.D.Dimension.words c.args.dim.now in
     product_none ls c.loop-axis.axis (omega arith) (omega arith)
 

@@ -10,12 +10,12 @@ loop-axis-init g c =
     let ls = g.D.Dimension.words c.args.dim.now in
     (c.requires, carry_none (g.D.Dimension.words c.args.index) ls c.ndim-axis.result (omega arith))
 
-pub overflow-add-next : goal.overflow-add-next
-overflow-add-next g c =
+pub overflow_add-next : goal.overflow_add-next
+overflow_add-next g c =
     let ls = g.D.Dimension.words c.args.dim.now in
     let ix = g.D.Dimension.words c.loop-axis.index in
-    let below : c.word-at-next.result < c.word-at-length.result = omega (arith, within_at ix ls (c.loop-axis.axis - 1) c.loop-axis.invariant.0 (omega arith)) in
-    let fits = c.word-at-length.type_inv in
+    let below : c.word_at-next.result < c.word_at-length.result = omega (arith, within_at ix ls (c.loop-axis.axis - 1) c.loop-axis.invariant.0 (omega arith)) in
+    let fits = c.word_at-length.type_inv in
     search rules
 
 pub loop-axis-preserved : goal.loop-axis-preserved
@@ -44,7 +44,7 @@ returns-else-next-length g c =
     let h : j < length ls = omega arith in
     let inv = subst (λ m. place ix ls + product (drop m ls) ≡ place from ls + 1) e c.loop-axis.invariant.1 in
     let less : get_or ix j 0 + 1 < get_or ls j 0 = omega (arith, within_at ix ls j w h) in
-    let v : get_or ix j 0 + 1 ≡ c.word-at-next.result + 1 = omega arith in
+    let v : get_or ix j 0 + 1 ≡ c.word_at-next.result + 1 = omega arith in
     let is : set ix j (get_or ix j 0 + 1) ≡ g.D.Dimension.words c.set-else-next-length.new.self = ap (set ix j) v ∙ sym c.set-else-next-length.ensures.after in (
       subst (λ (s : List ℕ). Within s ls) is (within-set ix ls j (get_or ix j 0 + 1) w less),
       ap (λ (s : List ℕ). place s ls) (sym is) ∙ stop ix ls j (place from ls + 1) w h inv,

@@ -3,8 +3,8 @@ use Rattle.laws.specs.Filling.{held}
 use Rattle.cells.proofs.Reading.{at_within, read_some, read_means}
 use Rattle.cells.proofs.reader.reads.read_at.Goals as goal
 
-pub offset-bounds-cells-at : goal.offset-bounds-cells-at
-offset-bounds-cells-at g c = omega (arith, at_within c.args.layout.now c.args.cells.now c.args.index.now c.requires c.in-Some.at c.in-Some.ensures)
+pub offset_bounds-cells-at : goal.offset_bounds-cells-at
+offset_bounds-cells-at g c = omega (arith, at_within c.args.layout.now c.args.cells.now c.args.index.now c.requires c.in-Some.at c.in-Some.ensures)
 
 pub bounds-cells-at : goal.bounds-cells-at
 bounds-cells-at g c = at_within c.args.layout.now c.args.cells.now c.args.index.now c.requires c.in-Some.at c.in-Some.ensures
