@@ -1,10 +1,10 @@
 -- Collapsing a layout, by what code reads of it.
-use Rattle.std.proofs.Common.{◌≡◌, ℕ, ◌^◌, ◌<◌, Bool, cond, T, ltb, List, length, get_or, set, ℤ, pos, ◌+ℤ◌, ◌*ℤ◌, Some, None, Ok, Option, sym, refl, ap, ◌∙◌, subst, arith, w64, to_z}
+use Rattle.std.proofs.Common.{◌≡◌, ℕ, ◌^◌, ◌<◌, Bool, cond, T, ltb, List, get_or, set, ℤ, pos, ◌+ℤ◌, ◌*ℤ◌, Some, None, Ok, Option, sym, ap, ◌∙◌, subst, arith, w64, to_z}
 use Rattle.std.proofs.lemmas.Bool.{lt-ltb}
 use Rattle.laws.specs.Strides.{signed}
 use Rattle.laws.specs.Space.{Seen, Sound, inside}
 use Rattle.laws.specs.Faults.{Fault, or_else, unless}
-use Rattle.laws.specs.Collapsing.{len_at, stride_at, outside_axis, axis_fault, collapse_fault, collapsed, collapsing}
+use Rattle.laws.specs.Collapsing.{len_at, outside_axis, axis_fault, collapse_fault, collapsed, collapsing}
 use Rattle.laws.proofs.Words.{length-signed, stride_read}
 use Rattle.laws.proofs.Limits.{start-inside}
 use Rattle.laws.proofs.Collapsing.{axis_below, collapsing_sound}

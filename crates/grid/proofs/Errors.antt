@@ -1,5 +1,5 @@
 -- A lower layer's answer handed up by a call.
-use Rattle.std.proofs.Common.{◌≡◌, ℕ, Bool, true, false, Some, None, Ok, Err, Option, Result, sym, refl, ap, ◌∙◌, arith}
+use Rattle.std.proofs.Common.{◌≡◌, ℕ, Bool, false, Some, None, Ok, Err, Option, Result, refl, ap, ◌∙◌, arith}
 use Rattle.laws.specs.Faults.{Fault, refuse, unless}
 use Rattle.laws.proofs.Faults.{passed, passed_with, refused}
 use Rattle.dimension.specs.declared.error.RowFault.{RowFault}
@@ -9,7 +9,7 @@ use Rattle.selection.specs.declared.error.SliceFault.{SliceFault}
 use Rattle.selection.specs.Errors as slices
 use Rattle.grid.specs.declared.error.GridCall.{GridCall}
 use Rattle.grid.specs.declared.error.During.{During}
-use Rattle.grid.specs.Errors.{Refusal, noted, calling}
+use Rattle.grid.specs.Errors.{noted, calling}
 
 module _ {A B : Type 0} (shows : A → B) (call : GridCall) (b : Bool) (f : Fault) (y : B) where
   -- a check that was passed

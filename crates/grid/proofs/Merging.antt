@@ -1,5 +1,5 @@
 -- Merging two axes of a layout, by what code reads of it.
-use Rattle.std.proofs.Common.{◌≡◌, ℕ, zero, suc, ◌*◌, ◌^◌, ◌<◌, ◌≤◌, min, Bool, true, false, cond, eqb, leb, List, [], ◌∷◌, length, get_or, set, ℤ, pos, ◌*ℤ◌, nat_abs, None, Ok, Option, sym, refl, ap, ◌∙◌, subst, ap₂, mul-le-mul, arith, w64, to_z}
+use Rattle.std.proofs.Common.{◌≡◌, ℕ, zero, suc, ◌*◌, ◌^◌, ◌<◌, ◌≤◌, min, Bool, true, false, cond, eqb, leb, List, [], ◌∷◌, get_or, set, ℤ, pos, ◌*ℤ◌, nat_abs, None, Ok, Option, sym, refl, ap, ◌∙◌, subst, ap₂, mul-le-mul, arith, w64, to_z}
 use Rattle.std.proofs.lemmas.List.{map-set}
 use Rattle.std.proofs.lemmas.Bool.{le-leb, lt-leb, ne_eqb}
 use Rattle.std.proofs.lemmas.Bool.Decides.{nat_tests}

@@ -1,5 +1,5 @@
 -- What opening in an order accepts is sound, whichever the order.
-use Rattle.std.proofs.Common.{◌≡◌, ℕ, ◌≤◌, false, ltb, List, map, length, ℤ, pos}
+use Rattle.std.proofs.Common.{◌≡◌, ℕ, ◌≤◌, false, ltb, List, map, length, pos}
 use Rattle.std.proofs.lemmas.Bool.{ltb-false}
 use Rattle.laws.specs.Lengths.{product, nonzeros}
 use Rattle.laws.specs.Strides.{signed}

@@ -1,5 +1,5 @@
 -- Reshaping a layout, by the strides that code finds for it.
-use Rattle.std.proofs.Common.{◌≡◌, ℕ, List, ℤ, pos, Some, None, Ok, Err, Option, Result, sym, refl, ap, ◌∙◌, subst, arith}
+use Rattle.std.proofs.Common.{◌≡◌, ℕ, List, ℤ, pos, None, Ok, Err, Option, Result, sym, ap, ◌∙◌, subst, arith}
 use Rattle.laws.specs.Strides.{signed}
 use Rattle.laws.specs.Space.{Seen, Sound}
 use Rattle.laws.specs.Faults.{Fault, unless}
@@ -14,10 +14,9 @@ use Rattle.dimension.specs.Rows.{listed}
 use Rattle.reshaping.specs.Reshapes.{guarded}
 use Rattle.reshaping.proofs.Guards.{grid-guarded}
 use Rattle.grid.specs.declared.layout.Layout.{Layout}
-use Rattle.grid.specs.declared.error.GridCall.{GridCall}
 use Rattle.grid.specs.declared.error.GridCall.TheVariants.{Reshape}
 use Rattle.grid.specs.declared.error.During.{During}
-use Rattle.grid.specs.Errors.{Refusal, noted, calling}
+use Rattle.grid.specs.Errors.{noted, calling}
 use Rattle.grid.specs.Layouts.{seen}
 use Rattle.grid.proofs.Layouts.{sound, Kept, kept}
 

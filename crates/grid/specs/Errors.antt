@@ -1,5 +1,5 @@
 -- The faults of the grid: why a call is refused, and by which call.
-use Rattle.std.specs.Prelude.{ℕ, Ok, Err, Result}
+use Rattle.std.specs.Prelude.{Ok, Err, Result}
 use Rattle.laws.specs.Faults.{Fault, in_grid}
 use Rattle.laws.specs.Collapsing.{outside_axis}
 use Rattle.dimension.specs.Errors.{row_fault}

@@ -2,7 +2,7 @@
 use Rattle.std.proofs.Common.{◌≡◌, ℕ, zero, suc, ◌+◌, ◌-◌, ◌*◌, ◌<◌, ◌≤◌, List, [], ◌∷◌, length, ℤ, pos, negsuc, ◌+ℤ◌, ◌≤ℤ◌, sym, mul-zero, arith}
 use Rattle.std.proofs.lemmas.Int.{ints}
 use Rattle.laws.specs.Lengths.{product, nonzeros}
-use Rattle.laws.specs.Space.{Seen, Sound, reach, up, down}
+use Rattle.laws.specs.Space.{Seen, Sound, up, down}
 use Rattle.laws.specs.Opening.{span}
 use Rattle.laws.specs.Reshaping.{Positive, Near, Ready}
 use Rattle.laws.proofs.Lengths.{product_below}

@@ -1,5 +1,5 @@
 -- Filling a grid's cells with one value, and reading the cell of a tuple.
-use Rattle.std.specs.Prelude.{◌≡◌, ℕ, suc, ◌<◌, Bool, true, false, cond, not, List, [], ◌∷◌, length, ℤ, pos, negsuc, ◌-ℤ◌, ◌*ℤ◌, Some, None, Ok, Option, Result, ◌==◌, slice_index_or}
+use Rattle.std.specs.Prelude.{◌≡◌, ℕ, suc, ◌<◌, Bool, false, cond, not, List, [], ◌∷◌, length, ℤ, pos, negsuc, ◌-ℤ◌, ◌*ℤ◌, Some, None, Ok, Option, Result, ◌==◌, slice_index_or}
 use Rattle.std.specs.List.{slice_get}
 use Rattle.laws.specs.Lengths.{some_below}
 use Rattle.laws.specs.Tuples.{Within, is_within}

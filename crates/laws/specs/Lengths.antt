@@ -1,5 +1,5 @@
 -- The lengths of a grid's axes, and their products.
-use Rattle.std.specs.Prelude.{ℕ, zero, suc, ◌*◌, Bool, true, false, cond, ◌||◌, List, [], ◌∷◌, ◌==◌, nat_eq}
+use Rattle.std.specs.Prelude.{ℕ, zero, suc, ◌*◌, Bool, false, cond, ◌||◌, List, [], ◌∷◌, ◌==◌, nat_eq}
 
 -- the size of a shape: the product of its lengths
 abbrev pub product : List ℕ → ℕ

@@ -1,5 +1,5 @@
 -- The elements of a range on one axis, and what making such a rule answers.
-use Rattle.std.specs.Prelude.{◌≡◌, ℕ, List, replicate, ℤ, pos, None, Ok, Option, Result, nat_le, nat_lt, slice_set}
+use Rattle.std.specs.Prelude.{ℕ, List, replicate, ℤ, pos, None, Ok, Option, Result, nat_le, nat_lt, slice_set}
 use Rattle.std.proofs.Common.{sym}
 use Rattle.laws.specs.Faults.{Fault, refuse}
 use Rattle.laws.specs.Elements.{Elem, Slice}

@@ -1,4 +1,4 @@
-use Rattle.std.proofs.Common.{◌≡◌, ◌<◌, length, get_or, ℤ, pos, sym, ap, ◌∙◌, arith, w64, to_z}
+use Rattle.std.proofs.Common.{◌≡◌, ◌<◌, length, get_or, pos, sym, ap, ◌∙◌, arith, w64, to_z}
 use Rattle.laws.proofs.Tuples.{within-length, within_at}
 use Rattle.laws.proofs.Words.{length-signed, stride_read}
 use Rattle.laws.proofs.Cells.{cell_none, cell_step, cell-all, cell_below}

@@ -1,4 +1,4 @@
-use Rattle.std.proofs.Common.{◌≡◌, ℕ, ◌+◌, ◌<◌, List, length, get_or, take, set, replicate, sym, refl, ap, ◌∙◌, subst, arith, length-set, below_more}
+use Rattle.std.proofs.Common.{◌≡◌, ◌+◌, ◌<◌, length, get_or, take, set, refl, ap, ◌∙◌, arith, length-set, below_more}
 use Rattle.laws.proofs.Tuples.{product_none}
 use Rattle.laws.proofs.Walks.{zeros_more, first-all}
 use Rattle.cells.proofs.walk.first_index.Goals as goal

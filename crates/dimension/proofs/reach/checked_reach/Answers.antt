@@ -1,4 +1,4 @@
-use Rattle.std.proofs.Common.{◌≡◌, ℕ, ◌+◌, ◌-◌, ◌*◌, ◌^◌, ◌<◌, ◌≤◌, length, get_or, drop, nat_abs, sym, ap, ◌∙◌, arith, w64, to_z}
+use Rattle.std.proofs.Common.{◌≡◌, ◌+◌, ◌-◌, ◌*◌, get_or, nat_abs, ap, ◌∙◌, arith, w64, to_z}
 use Rattle.laws.specs.Strides.{signed}
 use Rattle.laws.specs.Opening.{span}
 use Rattle.laws.proofs.Reach.{reach_word, reach-all}

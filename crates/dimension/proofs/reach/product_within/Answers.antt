@@ -1,4 +1,4 @@
-use Rattle.std.proofs.Common.{◌≡◌, ℕ, ◌*◌, ◌/◌, ◌<◌, ◌≤◌, leb, ◌⊎◌, sym, ap, ◌∙◌, inl, inr, mul-zero, arith}
+use Rattle.std.proofs.Common.{◌≡◌, ℕ, ◌*◌, ◌/◌, ◌<◌, leb, sym, ap, ◌∙◌, inl, inr, mul-zero, arith}
 use Rattle.std.proofs.lemmas.Bool.{le-leb, lt-leb, cases_lt}
 use Rattle.laws.proofs.Lengths.{within, past}
 use Rattle.dimension.proofs.reach.product_within.Goals as goal

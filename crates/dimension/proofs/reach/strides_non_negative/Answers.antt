@@ -1,5 +1,5 @@
-use Rattle.std.proofs.Common.{◌≡◌, ℕ, ◌-◌, ◌^◌, ◌<◌, ◌≤◌, Bool, true, false, cond, length, get_or, ℤ, pos, Ok, Err, sym, ap, ◌∙◌, subst, arith, w64, to_z}
-use Rattle.laws.specs.Faults.{Fault, in_rows}
+use Rattle.std.proofs.Common.{◌≡◌, Bool, true, false, cond, get_or, pos, Ok, Err, sym, ap, ◌∙◌, arith}
+use Rattle.laws.specs.Faults.{in_rows}
 use Rattle.laws.specs.Strides.{signed}
 use Rattle.laws.specs.Opening.{is_negative}
 use Rattle.laws.proofs.Lists.{some-here, some_more, some_none}

@@ -1,4 +1,4 @@
-use Rattle.std.proofs.Common.{◌≡◌, ℕ, ◌<◌, ◌≤◌, true, false, not, ltb, length, get_or, ℤ, pos, nat_abs, sym, ap, ◌∙◌, arith, w64, to_z}
+use Rattle.std.proofs.Common.{◌≡◌, not, ltb, get_or, ℤ, pos, nat_abs, sym, ap, ◌∙◌, arith, w64, to_z}
 use Rattle.std.proofs.lemmas.Bool.{lt-ltb, le-ltb}
 use Rattle.laws.specs.Strides.{signed}
 use Rattle.laws.proofs.Lists.{some-here, some_more, some_none}

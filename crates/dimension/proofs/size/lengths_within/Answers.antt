@@ -1,4 +1,4 @@
-use Rattle.std.proofs.Common.{◌≡◌, ℕ, ◌+◌, ◌*◌, ◌<◌, ◌≤◌, length, get_or, drop, sym, ap, ◌∙◌, subst, one-mul, arith}
+use Rattle.std.proofs.Common.{◌≡◌, ℕ, ◌+◌, ◌*◌, ◌<◌, get_or, drop, sym, ap, ◌∙◌, subst, one-mul, arith}
 use Rattle.std.proofs.lemmas.Bool.{le-leb, lt-leb}
 use Rattle.laws.specs.Lengths.{nonzero, nonzeros}
 use Rattle.laws.proofs.Lengths.{nonzero-pos, nonzeros-pos, nonzeros_more, nonzeros-all, within, past, part_below}

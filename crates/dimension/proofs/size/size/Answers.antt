@@ -1,4 +1,4 @@
-use Rattle.std.proofs.Common.{◌≡◌, ℕ, ◌+◌, ◌*◌, ◌<◌, ◌≤◌, length, get_or, drop, sym, ap, ◌∙◌, subst, one-mul, arith}
+use Rattle.std.proofs.Common.{◌+◌, ◌*◌, drop, ap, ◌∙◌, one-mul, arith}
 use Rattle.laws.specs.Lengths.{product, nonzeros}
 use Rattle.laws.proofs.Lengths.{product_more, product-all, part_more, part_fits}
 use Rattle.dimension.proofs.size.size.Goals as goal

@@ -1,4 +1,4 @@
-use Rattle.std.proofs.Common.{◌≡◌, cond, eqb, sym, ap, ◌∙◌, arith}
+use Rattle.std.proofs.Common.{cond, eqb, sym, ap, ◌∙◌, arith}
 use Rattle.std.proofs.lemmas.Bool.{eq-eqb, ne_eqb}
 use Rattle.laws.proofs.Lists.{some-here, some_more, some_none}
 use Rattle.dimension.proofs.strides.first_step.Goals as goal

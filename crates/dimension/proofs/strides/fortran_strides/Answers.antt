@@ -1,8 +1,8 @@
-use Rattle.std.proofs.Common.{◌≡◌, ℕ, false, ltb, List, reverse, Ok, Err, Result, sym, ap, ◌∙◌, subst}
+use Rattle.std.proofs.Common.{◌≡◌, ℕ, ltb, List, reverse, Ok, Err, sym, ap, ◌∙◌}
 use Rattle.std.proofs.lemmas.List.{reverse-reverse}
 use Rattle.std.proofs.lemmas.Result.{err_from_is_err_and}
 use Rattle.laws.specs.Lengths.{nonzeros}
-use Rattle.laws.specs.Faults.{Fault, in_rows, refuse}
+use Rattle.laws.specs.Faults.{in_rows, refuse}
 use Rattle.laws.specs.Strides.{row_major, column_major}
 use Rattle.laws.specs.Opening.{most}
 use Rattle.laws.proofs.Faults.{passed, passed_with, refused}

@@ -1,4 +1,4 @@
-use Rattle.std.proofs.Common.{◌≡◌, ℕ, ◌-◌, ◌*◌, ◌<◌, ◌≤◌, true, false, cond, [], length, get_or, drop, set, sym, refl, ap, ◌∙◌, subst, mul-one, arith}
+use Rattle.std.proofs.Common.{◌≡◌, ℕ, ◌-◌, ◌*◌, ◌≤◌, cond, [], length, drop, set, sym, refl, ap, ◌∙◌, subst, mul-one, arith}
 use Rattle.std.proofs.lemmas.List.{at_drop_all, drop_all, length-set}
 use Rattle.laws.specs.Lengths.{product, some_zero}
 use Rattle.laws.proofs.Strides.{scaled, scaled_row_major, step_fits, step_less, write_less}

@@ -1,4 +1,4 @@
-use Rattle.std.proofs.Common.{◌≡◌, ◌+◌, ◌<◌, ◌≤◌, length, drop, sym, ap, ◌∙◌, add-zero, arith}
+use Rattle.std.proofs.Common.{◌≡◌, ◌+◌, ◌<◌, length, drop, sym, ap, ◌∙◌, add-zero, arith}
 use Rattle.laws.specs.Elements.{NewAxis, in_count}
 use Rattle.laws.specs.Slicing.{first_fault}
 use Rattle.laws.proofs.Selections.{never_past}

@@ -1,7 +1,6 @@
-use Rattle.std.proofs.Common.{◌≡◌, ℕ, ◌<◌, false, cond, ltb, List, [], ◌∷◌, ◌++◌, length, get_or, take, Ok, Err, Result, sym, ap, ◌∙◌, arith}
+use Rattle.std.proofs.Common.{◌≡◌, ℕ, ◌<◌, false, ltb, List, [], ◌∷◌, ◌++◌, length, get_or, take, Ok, sym, ap, ◌∙◌, arith}
 use Rattle.std.proofs.lemmas.List.{take_more, take_more_set, take_all, length-set}
 use Rattle.std.proofs.lemmas.Bool.{le-ltb}
-use Rattle.laws.specs.Faults.{Fault, in_rows}
 use Rattle.dimension.proofs.dynindeximpl.IxDyn.new.Goals as goal
 
 pub loop-place-preserved : goal.loop-place-preserved

@@ -1,4 +1,4 @@
-use Rattle.std.proofs.Common.{◌≡◌, ◌-◌, ◌<◌, reverse, length, set, sym, ap, ◌∙◌, arith}
+use Rattle.std.proofs.Common.{◌-◌, ◌<◌, reverse, length, set, sym, ap, ◌∙◌, arith}
 use Rattle.laws.proofs.Lists.{set-reverse}
 use Rattle.std.proofs.lemmas.List.{length-reverse, set_past}
 use Rattle.std.proofs.lemmas.Bool.{lt-ltb, le-ltb}

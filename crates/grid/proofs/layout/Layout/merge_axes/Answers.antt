@@ -1,7 +1,6 @@
-use Rattle.std.proofs.Common.{◌≡◌, ℕ, ◌*◌, min, true, List, set, None, ap, ◌∙◌}
+use Rattle.std.proofs.Common.{◌≡◌, ℕ, ◌*◌, min, true, List, set, ap, ◌∙◌}
 use Rattle.std.proofs.lemmas.Bool.{true≢false}
 use Rattle.laws.specs.Collapsing.{axis_fault}
-use Rattle.laws.specs.Merging.{merge_fault}
 use Rattle.dimension.specs.Rows.{listed}
 use Rattle.grid.specs.declared.error.GridCall.TheVariants.{Merge}
 use Rattle.grid.specs.Layouts.{seen}

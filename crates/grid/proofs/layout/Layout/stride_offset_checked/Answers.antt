@@ -1,4 +1,4 @@
-use Rattle.std.proofs.Common.{◌≡◌, ◌<◌, get_or, sym, refl, arith, below_more}
+use Rattle.std.proofs.Common.{◌<◌, get_or, sym, refl, arith, below_more}
 use Rattle.laws.specs.Tuples.{Within}
 use Rattle.laws.proofs.Tuples.{within-length, within_at, within_from}
 use Rattle.laws.proofs.Words.{length-signed, stride_read}

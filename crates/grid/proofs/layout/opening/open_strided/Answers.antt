@@ -1,4 +1,4 @@
-use Rattle.std.proofs.Common.{◌≡◌, ℕ, ◌≤◌, List, length, ℤ, Ok, sym, ap, ◌∙◌, subst, ap₂}
+use Rattle.std.proofs.Common.{ℕ, ◌≤◌, List, length, ℤ, Ok, sym, ap, ◌∙◌, subst, ap₂}
 use Rattle.laws.specs.Strides.{signed}
 use Rattle.laws.specs.Space.{Seen, Sound}
 use Rattle.laws.specs.Opening.{fresh, strided}

@@ -1,4 +1,4 @@
-use Rattle.std.proofs.Common.{◌≡◌, eqb, sym, ◌∙◌, arith}
+use Rattle.std.proofs.Common.{eqb, sym, ◌∙◌, arith}
 use Rattle.std.proofs.lemmas.Bool.{eq-eqb, ne_eqb}
 use Rattle.laws.proofs.Lists.{some-here, some_more, some_none}
 use Rattle.grid.proofs.layout.overlap.is_empty.Goals as goal

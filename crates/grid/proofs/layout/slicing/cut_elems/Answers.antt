@@ -1,4 +1,4 @@
-use Rattle.std.proofs.Common.{◌≡◌, ◌<◌, length, Option, sym, refl, ap, arith}
+use Rattle.std.proofs.Common.{◌<◌, length, Option, sym, refl, ap, arith}
 use Rattle.std.proofs.lemmas.Result.{err_from_is_err_and}
 use Rattle.laws.specs.Faults.{Fault, unless}
 use Rattle.laws.specs.Elements.{NewAxis}

@@ -1,5 +1,5 @@
 use Rattle.std.proofs.Common.{◌≡◌, ◌-◌, ◌≤◌, length}
-use Rattle.script.specs.Cursors.{bytes, Onward}
+use Rattle.script.specs.Cursors.{bytes}
 use Rattle.script.proofs.parse.rows.row.Given as goal
 
 abbrev pub invariant-loop-words : goal.invariant-loop-words

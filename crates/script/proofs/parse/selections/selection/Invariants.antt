@@ -1,5 +1,5 @@
 use Rattle.std.proofs.Common.{◌≡◌, ◌-◌, ◌≤◌, length}
-use Rattle.script.specs.Cursors.{bytes, Onward}
+use Rattle.script.specs.Cursors.{bytes}
 use Rattle.script.proofs.parse.selections.selection.Given as goal
 
 abbrev pub invariant-loop-elems : goal.invariant-loop-elems

@@ -1,5 +1,5 @@
 -- One turn reads one digit, and after the last one the whole word is read.
-use Rattle.std.proofs.Common.{◌≡◌, ◌≤◌, length, take, ap, ◌∙◌, arith}
+use Rattle.std.proofs.Common.{◌≡◌, take, ap, ◌∙◌, arith}
 use Rattle.std.proofs.lemmas.List.{take_all}
 use Rattle.script.specs.Numerals.{extended, fitted, spelled}
 use Rattle.script.proofs.Numerals.{spelled_more, read_whole}

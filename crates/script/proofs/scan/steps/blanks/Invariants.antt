@@ -1,5 +1,5 @@
-use Rattle.std.proofs.Common.{◌≡◌, ℕ, ◌<◌, true, false, get_or}
-use Rattle.script.specs.Cursors.{blank, ending}
+use Rattle.std.proofs.Common.{◌≡◌, ℕ, ◌<◌, true, get_or}
+use Rattle.script.specs.Cursors.{blank}
 use Rattle.script.proofs.scan.steps.blanks.Given as goal
 
 abbrev pub invariant-loop-count : goal.invariant-loop-count

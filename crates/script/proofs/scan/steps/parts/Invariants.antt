@@ -1,5 +1,5 @@
-use Rattle.std.proofs.Common.{◌≡◌, ℕ, ◌<◌, true, false, get_or}
-use Rattle.script.specs.Cursors.{blank, ending}
+use Rattle.std.proofs.Common.{◌≡◌, ℕ, ◌<◌, false, get_or}
+use Rattle.script.specs.Cursors.{ending}
 use Rattle.script.proofs.scan.steps.parts.Given as goal
 
 abbrev pub invariant-loop-count : goal.invariant-loop-count

@@ -1,6 +1,6 @@
-use Rattle.std.proofs.Common.{◌≡◌, ◌<◌, List, length, get_or, take, Ok, sym, ap, ◌∙◌, arith}
+use Rattle.std.proofs.Common.{◌≡◌, ◌<◌, length, take, Ok, sym, ap, ◌∙◌, arith}
 use Rattle.std.proofs.lemmas.List.{length-set}
-use Rattle.laws.specs.Elements.{Elem, in_count, out_count}
+use Rattle.laws.specs.Elements.{in_count, out_count}
 use Rattle.selection.specs.Slices.{elems_of}
 use Rattle.selection.proofs.Storing.{storing_many, storing-takes, storing-leaves, storing-done, copy_more, copy_all}
 use Rattle.selection.proofs.info.SliceInfo.new.Goals as goal
