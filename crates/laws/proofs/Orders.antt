@@ -5,7 +5,7 @@ use Rattle.std.proofs.lemmas.Nat.{div_below}
 use Rattle.std.proofs.lemmas.List.{reverse-reverse}
 use Rattle.laws.specs.Lengths.{product}
 use Rattle.laws.specs.Tuples.{Within, place}
-use Rattle.laws.specs.Reshaping.{Order, RowMajor, ColumnMajor, column_place, before, row_tuple, column_tuple, tuple_at}
+use Rattle.laws.specs.Reshaping.{Order, RowMajor, ColumnMajor, column_place, count_before, row_tuple, column_tuple, tuple_at}
 use Rattle.laws.proofs.Tuples.{factor_left, factor_right, place_lt, place_inj}
 use Rattle.laws.proofs.ReshapingSizes.{product-append, product-reverse}
 
@@ -45,12 +45,12 @@ column_reverse (i ∷ ix) (l ∷ ls) w =
 
 -- ---- different tuples have different numbers before them
 
-pub before_lt : (o : Order) (ix ls : List ℕ) → Within ix ls → before o ix ls < product ls
+pub before_lt : (o : Order) (ix ls : List ℕ) → Within ix ls → count_before o ix ls < product ls
 before_lt RowMajor ix ls w = place_lt ix ls w
 before_lt ColumnMajor ix ls w =
     omega (arith, place_lt (reverse ix) (reverse ls) (within-reverse ix ls w), column_reverse ix ls w, product-reverse ls)
 
-pub before_inj : (o : Order) (ix jx ls : List ℕ) → Within ix ls → Within jx ls → before o ix ls ≡ before o jx ls → ix ≡ jx
+pub before_inj : (o : Order) (ix jx ls : List ℕ) → Within ix ls → Within jx ls → count_before o ix ls ≡ count_before o jx ls → ix ≡ jx
 before_inj RowMajor ix jx ls v w e = place_inj ix jx ls v w e
 before_inj ColumnMajor ix jx ls v w e =
     let turned = place_inj (reverse ix) (reverse jx) (reverse ls) (within-reverse ix ls v) (within-reverse jx ls w) (column_reverse ix ls v ∙ e ∙ sym (column_reverse jx ls w)) in
@@ -88,6 +88,6 @@ pub tuple_within : (o : Order) (ls : List ℕ) (k : ℕ) → k < product ls → 
 tuple_within RowMajor ls k h = row_within ls k h
 tuple_within ColumnMajor ls k h = column_within ls k h
 
-pub before_tuple : (o : Order) (ls : List ℕ) (k : ℕ) → k < product ls → before o (tuple_at o ls k) ls ≡ k
+pub before_tuple : (o : Order) (ls : List ℕ) (k : ℕ) → k < product ls → count_before o (tuple_at o ls k) ls ≡ k
 before_tuple RowMajor ls k h = row_place ls k h
 before_tuple ColumnMajor ls k h = column_place_lem ls k h

@@ -8,7 +8,7 @@ use Rattle.laws.specs.Tuples.{Within}
 use Rattle.laws.specs.Space.{Seen, Sound, offset, reach, plus, minus, up, down}
 use Rattle.laws.specs.Faults.{Fault, in_rows}
 use Rattle.laws.specs.Opening.{most, limit}
-use Rattle.laws.specs.Reshaping.{Order, RowMajor, ColumnMajor, before, regrouped, backward, regrouped_in, restrided, refusal_of, strides_of, reshape_fault, reshaped, reshaped_back, Near, Ready}
+use Rattle.laws.specs.Reshaping.{Order, RowMajor, ColumnMajor, count_before, regrouped, backward, regrouped_in, restrided, refusal_of, strides_of, reshape_fault, reshaped, reshaped_back, Near, Ready}
 use Rattle.laws.proofs.Faults.{passed_on}
 use Rattle.laws.proofs.Lengths.{product_below}
 use Rattle.laws.proofs.Tuples.{within-length, product-pos}
@@ -44,7 +44,7 @@ reshape_ready s h ms e some = record {
 
 -- an old and a new tuple with as many before them have one cell
 abbrev pub Keeping : Order → List ℕ → List ℤ → List ℕ → List ℤ → Type 0
-Keeping o ls zs ms ts = (ix jx : List ℕ) → Within ix ls → Within jx ms → before o ix ls ≡ before o jx ms → offset jx ts ≡ offset ix zs
+Keeping o ls zs ms ts = (ix jx : List ℕ) → Within ix ls → Within jx ms → count_before o ix ls ≡ count_before o jx ms → offset jx ts ≡ offset ix zs
 
 backward_ok : (r : Result (List ℤ) Fault) (ts : List ℤ) → backward r ≡ Ok ts → r ≡ Ok (reverse ts)
 backward_ok (Ok xs) ts e = let f : reverse xs ≡ ts = cc in ap Ok (sym (reverse-reverse xs) ∙ ap reverse f)
@@ -79,10 +79,10 @@ module _ (s : Seen) (o : Order) (ms : List ℕ) (ts : List ℤ) (r : Ready s.len
   work ix = reshaped_back o ms s.lens ix
 
   work_within : (ix : List ℕ) → Within ix ms → Within (work ix) s.lens
-  work_within ix w = tuple_within o s.lens (before o ix ms) (omega (arith, before_lt o ix ms w, r.same))
+  work_within ix w = tuple_within o s.lens (count_before o ix ms) (omega (arith, before_lt o ix ms w, r.same))
 
-  work_before : (ix : List ℕ) → Within ix ms → before o (work ix) s.lens ≡ before o ix ms
-  work_before ix w = before_tuple o s.lens (before o ix ms) (omega (arith, before_lt o ix ms w, r.same))
+  work_before : (ix : List ℕ) → Within ix ms → count_before o (work ix) s.lens ≡ count_before o ix ms
+  work_before ix w = before_tuple o s.lens (count_before o ix ms) (omega (arith, before_lt o ix ms w, r.same))
 
   work_offset : (ix : List ℕ) → Within ix ms → offset ix ts ≡ offset (work ix) s.strides
   work_offset ix w = k (work ix) ix (work_within ix w) w (work_before ix w)
@@ -109,7 +109,7 @@ module _ (s : Seen) (o : Order) (ms : List ℕ) (ts : List ℤ) (r : Ready s.len
     within = work_within;
     same_cell = λ ix w. ap (λ (z : ℤ). s.start +ℤ z) (work_offset ix w);
     apart = λ ix jx w u e.
-        before_inj o ix jx ms w u (sym (work_before ix w) ∙ ap (λ t. before o t s.lens) e ∙ work_before jx u);
+        before_inj o ix jx ms w u (sym (work_before ix w) ∙ ap (λ t. count_before o t s.lens) e ∙ work_before jx u);
     top = raise s.start (up s.lens s.strides) (up ms ts) up_less;
     bottom = raise s.start (down s.lens s.strides) (down ms ts) down_less;
     paired = sym long;

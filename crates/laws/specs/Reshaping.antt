@@ -21,9 +21,9 @@ column_place (i ∷ ix) [] = 0
 column_place (i ∷ ix) (n ∷ ns) = i + n * column_place ix ns
 
 -- how many come before it in an order
-abbrev pub before : Order → List ℕ → List ℕ → ℕ
-before RowMajor ix ns = place ix ns
-before ColumnMajor ix ns = column_place ix ns
+abbrev pub count_before : Order → List ℕ → List ℕ → ℕ
+count_before RowMajor ix ns = place ix ns
+count_before ColumnMajor ix ns = column_place ix ns
 
 -- the tuple with k before it
 abbrev pub row_tuple : List ℕ → ℕ → List ℕ
@@ -153,7 +153,7 @@ reshaping o ms s = unless (reshape_fault o ms s) (reshaped o ms s)
 
 -- the old tuple with as many before it
 abbrev pub reshaped_back : Order → List ℕ → List ℕ → List ℕ → List ℕ
-reshaped_back o ms ds t = tuple_at o ds (before o t ms)
+reshaped_back o ms ds t = tuple_at o ds (count_before o t ms)
 
 -- ---- what a grid gives
 
