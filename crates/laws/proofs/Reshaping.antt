@@ -1,8 +1,8 @@
 -- Reshaping leaves a grid whose tuples stand for tuples of the reshaped one, with as many before them.
-use Rattle.std.proofs.Common.{◌≡◌, ℕ, ◌+◌, ◌-◌, ◌*◌, ◌<◌, ◌≤◌, Bool, true, false, cond, not, eqb, ltb, List, [], ◌∷◌, reverse, length, replicate, ℤ, pos, negsuc, ◌+ℤ◌, neg_ℤ, ◌≤ℤ◌, None, Ok, Err, Result, sym, refl, ap, ◌∙◌, subst, inl, inr, mul-zero, arith}
+use Rattle.std.proofs.Common.{◌≡◌, ℕ, ◌+◌, ◌-◌, ◌*◌, ◌<◌, ◌≤◌, cond, not, eqb, ltb, List, [], ◌∷◌, reverse, length, replicate, ℤ, pos, negsuc, ◌+ℤ◌, neg_ℤ, ◌≤ℤ◌, None, Ok, Err, Result, sym, refl, ap, ◌∙◌, subst, inl, inr, mul-zero, arith}
 use Rattle.std.proofs.lemmas.List.{length-reverse, length-replicate, reverse-reverse}
 use Rattle.std.proofs.lemmas.Int.{ints}
-use Rattle.std.proofs.lemmas.Bool.{cases_eq, eq-eqb, ne_eqb, eqb-true, ltb-false, cond-true, cond-false, both_ways}
+use Rattle.std.proofs.lemmas.Bool.{cases_eq, eq-eqb, ne_eqb, eqb-true, ltb-false, cond-true, cond-false, not-false}
 use Rattle.laws.specs.Lengths.{product, nonzeros}
 use Rattle.laws.specs.Tuples.{Within}
 use Rattle.laws.specs.Space.{Seen, Sound, offset, reach, plus, minus, up, down}
@@ -144,10 +144,6 @@ none_refined s ms work e few small = record {
 not_refused : (r : Result (List ℤ) Fault) → refusal_of r ≡ None → Ok (strides_of r) ≡ r
 not_refused (Ok ts) e = refl
 not_refused (Err f) e = let z : ◌≡◌ {A = ℕ} 0 1 = cc in absurd (omega arith)
-
-not-false : (b : Bool) → not b ≡ false → b ≡ true
-not-false true e = refl
-not-false false e = absurd (both_ways true e refl)
 
 module _ (s : Seen) (h : Sound s) (o : Order) (ms : List ℕ) where
   made_refined : (ts : List ℤ) → length ms ≤ 8 → nonzeros ms ≤ 1048576 → product ms ≡ product s.lens

@@ -42,15 +42,15 @@ pub record Worked : Type 0 where
   -- slicing: backward, nothing, one index alone, and places at and past either end
   pub slice_back : Leaves thirds 4 (neg_ℤ (pos 3)) (pos 9)
   pub slice_none : Leaves (Slice (pos 4) (Some (pos 4)) (neg_ℤ (pos 1))) 0 (pos 0) (pos 0)
-  pub slice-one : Leaves (Slice (pos 3) (Some (pos 4)) (pos 5)) 1 (pos 0) (pos 3)
+  pub slice_one : Leaves (Slice (pos 3) (Some (pos 4)) (pos 5)) 1 (pos 0) (pos 3)
   pub end_first : Leaves (Slice (pos 0) (Some (neg_ℤ (pos 10))) (pos 1)) 0 (pos 0) (pos 0)
   pub end_before : cut (Slice (pos 0) (Some (neg_ℤ (pos 11))) (pos 1)) ≡ Err (in_selection 14 (Some 0))
   pub start_last : Leaves (Slice (pos 10) None (pos 1)) 0 (pos 0) (pos 0)
   pub start_past : cut (Slice (pos 11) None (pos 1)) ≡ Err (in_selection 14 (Some 0))
   -- meeting
   pub meet : meeting (thirds ∷ []) (fourths ∷ []) (10 ∷ []) ≡ true
-  pub meet-thirds : picks 10 thirds 9 ≡ true
-  pub meet-fourths : picks 10 fourths 9 ≡ true
+  pub meet_thirds : picks 10 thirds 9 ≡ true
+  pub meet_fourths : picks 10 fourths 9 ≡ true
   -- reshaping: one group, lengths 1 between groups and within one, and axes that are not in step
   pub reshape_rows : restrided RowMajor (2 ∷ 3 ∷ []) (pos 3 ∷ pos 1 ∷ []) (3 ∷ 2 ∷ []) ≡ Ok (pos 2 ∷ pos 1 ∷ [])
   pub reshape_ones : restrided RowMajor (2 ∷ 1 ∷ 3 ∷ 1 ∷ 1 ∷ []) (pos 3 ∷ pos 9 ∷ pos 1 ∷ pos 8 ∷ pos 7 ∷ []) (2 ∷ 1 ∷ 1 ∷ 3 ∷ 1 ∷ [])
