@@ -1,13 +1,14 @@
 -- The calls that change a grid and their answers, as the rules see them.
-use Rattle.std.specs.Prelude.{◌≡◌, List, [], ◌∷◌}
+use Rattle.std.specs.Prelude.{◌≡◌, List, [], ◌∷◌, Ok, Err, Result}
 use Rattle.laws.specs.Elements.{Elem}
 use Rattle.laws.specs.Calls as rules
 use Rattle.grid.specs.declared.calls.Call.{Call}
 use Rattle.grid.specs.declared.calls.Call.TheVariants.{Slice, Collapse, Merge}
-use Rattle.grid.specs.declared.calls.Answer.{Answer}
-use Rattle.grid.specs.declared.calls.Answer.TheVariants.{Refused, No, Done}
+use Rattle.grid.specs.declared.calls.Outcome.{Outcome}
+use Rattle.grid.specs.declared.calls.Outcome.TheVariants.{No, Done}
 use Rattle.grid.specs.declared.error.GridCall.{GridCall}
 use Rattle.grid.specs.declared.error.GridCall.TheVariants as named
+use Rattle.grid.specs.declared.error.GridFault.{GridFault}
 use Rattle.grid.specs.Errors.{cause_fault}
 
 -- what a call means, by the elements of its selection
@@ -23,19 +24,18 @@ name_of (Collapse axis index) = named.Collapse
 name_of (Merge take into) = named.Merge
 
 -- an answer as the rules speak of it
-abbrev pub saying : Answer → rules.Answer
-saying (Refused f) = rules.Refused (cause_fault f.cause)
-saying No = rules.No
-saying Done = rules.Done
+abbrev pub saying : Result Outcome GridFault → rules.Answer
+saying (Err f) = rules.Refused (cause_fault f.cause)
+saying (Ok No) = rules.No
+saying (Ok Done) = rules.Done
 
 -- a refusal names the call
-abbrev pub Naming : GridCall → Answer → Type 0
-Naming call (Refused f) = f.call ≡ call
-Naming call No = Unit {0}
-Naming call Done = Unit {0}
+abbrev pub Naming : GridCall → Result Outcome GridFault → Type 0
+Naming call (Err f) = f.call ≡ call
+Naming call (Ok outcome) = Unit {0}
 
 -- each refusal of a list names its call
-abbrev pub Names : {S : Type 0} → List (Call S) → List Answer → Type 0
+abbrev pub Names : {S : Type 0} → List (Call S) → List (Result Outcome GridFault) → Type 0
 Names [] said = Unit {0}
 Names (c ∷ cs) [] = Unit {0}
 Names (c ∷ cs) (a ∷ said) = Naming (name_of c) a × Names cs said

@@ -17,13 +17,15 @@ pub enum Call<S> {
     Merge(usize, usize),
 }
 
-/// What a call answers: a fault, merging's no, or that it is done.
+/// How a call that is not refused ends: merging's no, or done.
 #[derive(Clone, Copy, PartialEq, Eq, Debug)]
-pub enum Answer {
-    Refused(GridFault),
+pub enum Outcome {
     No,
     Done,
 }
+
+/// What a call answers: how it ends, or why it is refused.
+pub type Answer = Result<Outcome, GridFault>;
 
 /// Slices a grid in its place.
 fn slice<S: SliceArg>(grid: &mut Layout, sel: &S) -> Answer
@@ -32,13 +34,8 @@ fn slice<S: SliceArg>(grid: &mut Layout, sel: &S) -> Answer
     ensures after { seen grid.new ≡ after (Slicing (S.SliceArg.elems sel.now)) (seen grid.old) }
     ensures same { accepted (saying result) ≡ false → grid.new ≡ grid.old }
 {
-    match grid.slice_move(sel) {
-        Ok(layout) => {
-            *grid = layout;
-            Answer::Done
-        }
-        Err(fault) => Answer::Refused(fault),
-    }
+    *grid = grid.slice_move(sel)?;
+    Ok(Outcome::Done)
 }
 
 /// Collapses an axis.
@@ -48,10 +45,8 @@ fn collapse(grid: &mut Layout, axis: usize, index: usize) -> Answer
     ensures after { seen grid.new ≡ after (Collapsing axis index) (seen grid.old) }
     ensures same { accepted (saying result) ≡ false → grid.new ≡ grid.old }
 {
-    match grid.collapse_axis(axis, index) {
-        Ok(_) => Answer::Done,
-        Err(fault) => Answer::Refused(fault),
-    }
+    grid.collapse_axis(axis, index)?;
+    Ok(Outcome::Done)
 }
 
 /// Merges two axes.
@@ -61,11 +56,8 @@ fn merge(grid: &mut Layout, take: usize, into: usize) -> Answer
     ensures after { seen grid.new ≡ after (Merging take into) (seen grid.old) }
     ensures same { accepted (saying result) ≡ false → grid.new ≡ grid.old }
 {
-    match grid.merge_axes(take, into) {
-        Ok(true) => Answer::Done,
-        Ok(false) => Answer::No,
-        Err(fault) => Answer::Refused(fault),
-    }
+    let merged = grid.merge_axes(take, into)?;
+    Ok(if merged { Outcome::Done } else { Outcome::No })
 }
 
 /// Makes one call; a refused one and merging's no change nothing.
@@ -94,8 +86,8 @@ pub fn replay<S: SliceArg>(grid: &mut Layout, calls: &[Call<S>], said: &mut [Ans
     if calls.len() != said.len() {
         return false;
     }
-    for place in 0..calls.len() {
-        said[place] = perform(grid, &calls[place]);
+    for (place, call) in calls.iter().enumerate() {
+        said[place] = perform(grid, call);
     }
     true
 }

@@ -81,10 +81,7 @@ pub struct During<F> {
 pub fn at_call<T, F>(res: Result<T, F>, call: GridCall) -> Result<T, During<F>>
     ensures { result ≡ noted res call }
 {
-    match res {
-        Ok(value) => Ok(value),
-        Err(fault) => Err(During { fault, call }),
-    }
+    res.map_err(|fault| During { fault, call })
 }
 
 impl From<During<RowFault>> for GridFault {

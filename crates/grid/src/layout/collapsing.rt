@@ -28,22 +28,14 @@ impl Layout {
         ensures same { OnErr result (self.new ≡ self.old) }
     {
         check_axis(self, axis, GridCall::Collapse)?;
-        let mut lens = self.lens;
-        if index >= word_at(&lens, axis) {
+        if index >= word_at(&self.lens, axis) {
             return Err(GridFault {
                 cause: Cause::Outside(axis),
                 call: GridCall::Collapse,
             });
         }
-        let strides = self.strides;
-        let start = stride_offset(self.start, index, word_at(&strides, axis));
-        let _ = lens.set(axis, 1);
-        *self = Layout {
-            cells: self.cells,
-            start,
-            lens,
-            strides,
-        };
+        self.start = stride_offset(self.start, index, word_at(&self.strides, axis));
+        let _ = self.lens.set(axis, 1);
         Ok(())
     }
 }

@@ -10,16 +10,7 @@ ghost use Rattle.grid.specs.Layouts.{seen};
 use super::Layout;
 use super::collapsing::check_axis;
 use crate::error::{GridCall, GridFault};
-use dimension::{Dimension, word_at};
-
-/// Whether one stride is a length times another.
-fn in_step(stride: usize, length: usize, other: usize) -> bool
-    requires length { length ≤ 1048576 }
-    requires other { unsigned_abs (to_z w64 other) ≤ 1048576 }
-    ensures { result ≡ same_stride (to_z w64 stride) (pos length *ℤ to_z w64 other) }
-{
-    stride.cast_signed() == length.cast_signed() * other.cast_signed()
-}
+use dimension::{Dimension, in_step, word_at};
 
 /// Whether one axis can be joined to another.
 fn is_mergeable(grid: &Layout, take: usize, into: usize) -> bool
@@ -67,17 +58,9 @@ impl Layout {
         }
         let length = word_at(&self.lens, into) * word_at(&self.lens, take);
         let stride = merged_stride(self, take, into);
-        let mut lens = self.lens;
-        let _ = lens.set(into, length);
-        let _ = lens.set(take, length.min(1));
-        let mut strides = self.strides;
-        let _ = strides.set(into, stride);
-        *self = Layout {
-            cells: self.cells,
-            start: self.start,
-            lens,
-            strides,
-        };
+        let _ = self.lens.set(into, length);
+        let _ = self.lens.set(take, length.min(1));
+        let _ = self.strides.set(into, stride);
         Ok(true)
     }
 }

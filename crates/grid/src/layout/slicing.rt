@@ -62,10 +62,9 @@ fn with_axis(cut: Cut, length: usize, stride: usize) -> Cut
     let _ = lens.push(length);
     let _ = strides.push(stride);
     Cut {
-        axis: cut.axis,
-        start: cut.start,
         lens,
         strides,
+        ..cut
     }
 }
 
@@ -89,8 +88,7 @@ fn cut_range(
     let rest = Cut {
         axis: cut.axis + 1,
         start: moved,
-        lens: cut.lens,
-        strides: cut.strides,
+        ..cut
     };
     Ok(with_axis(rest, count, cut_stride(stride, count, step)))
 }
@@ -107,8 +105,7 @@ fn cut_index(grid: &Layout, cut: Cut, place: usize, index: isize) -> Result<Cut,
     Ok(Cut {
         axis: cut.axis + 1,
         start,
-        lens: cut.lens,
-        strides: cut.strides,
+        ..cut
     })
 }
 

@@ -1,10 +1,11 @@
-use Rattle.std.proofs.Common.{◌<◌, List, map, length, take, sym, refl, ap, ◌∙◌, subst, arith}
+use Rattle.std.proofs.Common.{◌<◌, List, map, length, take, sym, refl, ap, ◌∙◌, subst, Result, arith}
 use Rattle.std.proofs.lemmas.List.{take_all}
 use Rattle.std.proofs.lemmas.Bool.{eq-eqb, ne_eqb, false≢true, true≢false}
 use Rattle.laws.specs.Calls.{answer, after, run, answers}
 use Rattle.laws.proofs.CallsLoop.{run_more, answers_more}
 use Rattle.laws.proofs.History.{keeps}
-use Rattle.grid.specs.declared.calls.Answer.{Answer}
+use Rattle.grid.specs.declared.calls.Outcome.{Outcome}
+use Rattle.grid.specs.declared.error.GridFault.{GridFault}
 use Rattle.grid.specs.Layouts.{seen}
 use Rattle.grid.specs.Calls.{meaning, saying, Names}
 use Rattle.grid.proofs.Layouts.{sound}
@@ -50,7 +51,7 @@ returns g c =
     record {
       answer = sym (eq-eqb _ _ c.if-calls-said.false);
       answers = sym (ap (map saying) full) ∙ inv.1 ∙ ap (λ ds. answers start (map F ds)) whole;
-      names = λ e. subst (λ ds. Names ds c.loop-place.said) whole (subst (λ (said : List Answer). Names (take c.loop-place.place cs) said) full inv.2);
+      names = λ e. subst (λ ds. Names ds c.loop-place.said) whole (subst (λ (said : List (Result Outcome GridFault)). Names (take c.loop-place.place cs) said) full inv.2);
       after = inv.0 ∙ ap (λ ds. run start (map F ds)) whole;
       same = λ e. absurd (true≢false e);
       kept = (keeps start (sound c.args.grid.now) (map F cs)).1;

@@ -12,7 +12,7 @@ invariant_of-self c =
     let l = c.args.self.now in
     let a : axis_fault (seen l) c.args.axis ≡ None = none_refused Collapse (axis_fault (seen l) c.args.axis) c.in_ok-check_axis.field-0 tt c.in_ok-check_axis.ensures in
     let h : c.args.index < len_at (seen l) c.args.axis = omega arith in
-    collapse_kept l c.args.axis c.args.index c.word_at-2.result c.stride_offset-start.result (listed c.set.new.self) a h c.word_at-2.ensures c.stride_offset-start.ensures.law c.set.ensures.after
+    collapse_kept l c.args.axis c.args.index c.word_at-2.result c.stride_offset-self.result (listed c.set.new.self) a h c.word_at-2.ensures c.stride_offset-self.ensures.law c.set.ensures.after
 
 pub returns : goal.returns
 returns c =
@@ -20,6 +20,6 @@ returns c =
     let a : axis_fault (seen l) c.args.axis ≡ None = none_refused Collapse (axis_fault (seen l) c.args.axis) c.in_ok-check_axis.field-0 tt c.in_ok-check_axis.ensures in
     let h : c.args.index < len_at (seen l) c.args.axis = omega arith in
     record {
-      answer = collapse_answer l c.args.axis c.args.index c.word_at-2.result c.stride_offset-start.result (listed c.set.new.self) a h c.word_at-2.ensures c.stride_offset-start.ensures.law c.set.ensures.after;
+      answer = collapse_answer l c.args.axis c.args.index c.word_at-2.result c.stride_offset-self.result (listed c.set.new.self) a h c.word_at-2.ensures c.stride_offset-self.ensures.law c.set.ensures.after;
       same = tt;
     }

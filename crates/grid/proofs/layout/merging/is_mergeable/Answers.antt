@@ -1,14 +1,6 @@
 use Rattle.std.proofs.Common.{◌∙◌}
-use Rattle.grid.proofs.Merging.{length_fits, stride_fits, by_strides}
+use Rattle.grid.proofs.Merging.{by_strides}
 use Rattle.grid.proofs.layout.merging.is_mergeable.Goals as goal
-
-pub in_step-requires : goal.in_step-requires
-in_step-requires c =
-    let l = c.args.grid.now in
-    record {
-      length = length_fits l c.args.into c.word_at-length.result c.word_at-length.ensures;
-      other = stride_fits l c.args.into c.word_at-length.result c.word_at-2.result c.word_at-length.ensures c.word_at-2.ensures c.if-length-le1.false;
-    }
 
 pub returns : goal.returns
 returns c =
