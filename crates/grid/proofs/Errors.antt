@@ -28,6 +28,11 @@ module _ {A B : Type 0} (shows : A → B) (call : GridCall) (b : Bool) (f : Faul
       ap (λ (x : During RowFault). Err (record { fault = row_fault x.fault; call = x.call })) same
       ∙ ap (calling {A = C} call) (refused b f (row_fault g) y rest h)
 
+-- an answer of the rows that was not refused
+pub took_rows : {A B : Type 0} (shows : A → B) (call : GridCall) (q : Result B Fault) (r : Result A RowFault) (x : A) → Ok x ≡ noted r call → rows.answered shows r ≡ q → Ok (shows x) ≡ q
+took_rows shows call q (Ok z) x e h = let same : x ≡ z = cc in ap (λ y. Ok (shows y)) same ∙ h
+took_rows shows call q (Err g) x e h = let z : ◌≡◌ {A = ℕ} 0 1 = cc in absurd (omega arith)
+
 -- a selection's answer that was not refused
 pub took : {A B : Type 0} (shows : A → B) (call : GridCall) (q : Result B Fault) (r : Result A SliceFault) (x : A) → Ok x ≡ noted r call → slices.answered shows r ≡ q → Ok (shows x) ≡ q
 took shows call q (Ok z) x e h = let same : x ≡ z = cc in ap (λ y. Ok (shows y)) same ∙ h

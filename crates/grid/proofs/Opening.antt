@@ -1,14 +1,16 @@
--- What opening in an order accepts is sound, whichever the order.
-use Rattle.std.proofs.Common.{◌≡◌, ℕ, ◌≤◌, false, ltb, List, map, length, pos}
+-- What the checks of the rows passed, and that what opening in an order accepts is sound.
+use Rattle.std.proofs.Common.{◌≡◌, ℕ, ◌≤◌, false, not, eqb, ltb, List, map, length, ℤ, pos, Ok}
 use Rattle.std.proofs.lemmas.Bool.{ltb-false}
 use Rattle.laws.specs.Lengths.{product, nonzeros}
 use Rattle.laws.specs.Strides.{signed}
 use Rattle.laws.specs.Space.{Sound}
-use Rattle.laws.specs.Opening.{limit, fresh}
+use Rattle.laws.specs.Faults.{in_rows}
+use Rattle.laws.specs.Opening.{limit, most, fresh, overflows, some_negative}
+use Rattle.laws.proofs.Faults.{passed_on}
 use Rattle.laws.proofs.Opened.{ordered_sound_row, ordered_sound_column, signed_row, signed_column}
 use Rattle.dimension.specs.declared.order.Order.{Order}
 use Rattle.dimension.specs.declared.order.Order.TheVariants.{RowMajor, ColumnMajor}
-use Rattle.grid.specs.Layouts.{in_order}
+use Rattle.grid.specs.Layouts.{in_order, shaped, reaching}
 
 pub ordered_sound : (order : Order) (cells : ℕ) (ls : List ℕ) → length ls ≤ 8 → ltb limit cells ≡ false → ltb limit (nonzeros ls) ≡ false → product ls ≤ cells
     → Sound (fresh cells ls (map pos (in_order order ls)))
@@ -18,3 +20,23 @@ ordered_sound ColumnMajor cells ls few narrow small fits = ordered_sound_column 
 pub signed-order : (order : Order) (ls : List ℕ) → ltb limit (nonzeros ls) ≡ false → signed (in_order order ls) ≡ map pos (in_order order ls)
 signed-order RowMajor ls small = signed_row ls (ltb-false limit (nonzeros ls) small)
 signed-order ColumnMajor ls small = signed_column ls (ltb-false limit (nonzeros ls) small)
+
+-- ---- what was passed on the way to an answer
+
+pub shape_passed : (cells : ℕ) (ls : List ℕ) (n : ℕ) → Ok n ≡ shaped cells ls
+    → (ltb limit cells ≡ false) × (ltb most (nonzeros ls) ≡ false) × (ltb limit (nonzeros ls) ≡ false) × (n ≡ product ls)
+shape_passed cells ls n e =
+    let a = passed_on (ltb limit cells) (in_rows 12) n _ e in
+    let b = passed_on (ltb most (nonzeros ls)) (in_rows 6) n _ a.1 in
+    let c = passed_on (ltb limit (nonzeros ls)) (in_rows 12) n (Ok (product ls)) b.1 in
+    let last = c.1 in
+    (a.0, b.0, c.0, cc)
+
+pub row_passed : (cells size : ℕ) (ls : List ℕ) (zs : List ℤ) (n : ℕ) → Ok n ≡ reaching cells size ls zs
+    → (not (eqb (length ls) (length zs)) ≡ false) × (overflows size ls zs ≡ false)
+row_passed cells size ls zs n e =
+    let a = passed_on (ltb limit cells) (in_rows 12) n _ e in
+    let b = passed_on (not (eqb (length ls) (length zs))) (in_rows 2) n _ a.1 in
+    let c = passed_on (some_negative zs) (in_rows 5) n _ b.1 in
+    let d = passed_on (overflows size ls zs) (in_rows 6) n _ c.1 in
+    (b.0, d.0)

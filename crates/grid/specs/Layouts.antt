@@ -1,8 +1,10 @@
 -- A layout and the ways to open one, as the rules see them.
-use Rattle.std.specs.Prelude.{ℕ, List, pos}
+use Rattle.std.specs.Prelude.{ℕ, not, List, length, ℤ, pos, Ok, Result, ◌==◌, nat_lt}
 use Rattle.laws.specs.Strides.{signed, row_major, column_major}
 use Rattle.laws.specs.Space.{Seen}
-use Rattle.laws.specs.Opening.{Given, InRowMajor, InColumnMajor, ByStrides}
+use Rattle.laws.specs.Lengths.{product, nonzeros}
+use Rattle.laws.specs.Faults.{Fault, in_rows, refuse}
+use Rattle.laws.specs.Opening.{Given, InRowMajor, InColumnMajor, ByStrides, most, limit, span, overflows, some_negative, some_above}
 use Rattle.dimension.specs.Rows.{listed}
 use Rattle.dimension.specs.declared.order.Order.{Order}
 use Rattle.dimension.specs.declared.order.Order.TheVariants.{RowMajor, ColumnMajor}
@@ -24,3 +26,22 @@ abbrev pub given : {S : Type 0} → (S → List ℕ) → Strides S → Given
 given words C = InRowMajor
 given words F = InColumnMajor
 given words (Custom row) = ByStrides (signed (words row))
+
+-- the size, where no check of an order refuses the rows
+abbrev pub shaped : ℕ → List ℕ → Result ℕ Fault
+shaped cells ls =
+    refuse (nat_lt limit cells) (in_rows 12)
+    (refuse (nat_lt most (nonzeros ls)) (in_rows 6)
+    (refuse (nat_lt limit (nonzeros ls)) (in_rows 12)
+    (Ok (product ls))))
+
+-- the reach, where no check of a stride row refuses the rows
+abbrev pub reaching : ℕ → ℕ → List ℕ → List ℤ → Result ℕ Fault
+reaching cells size ls zs =
+    refuse (nat_lt limit cells) (in_rows 12)
+    (refuse (not (length ls == length zs)) (in_rows 2)
+    (refuse (some_negative zs) (in_rows 5)
+    (refuse (overflows size ls zs) (in_rows 6)
+    (refuse (nat_lt limit (nonzeros ls)) (in_rows 12)
+    (refuse (some_above limit zs) (in_rows 12)
+    (Ok (span ls zs)))))))

@@ -7,18 +7,17 @@ ghost use Rattle.laws.specs.Opening.{limit, some_above, fresh, ordered, strided,
 ghost use Rattle.dimension.specs.Errors.{answered as rowAnswered};
 ghost use Rattle.dimension.specs.Rows.{strides_of};
 ghost use Rattle.grid.specs.Errors.{answered, calling, cause_fault, told};
-ghost use Rattle.grid.specs.Layouts.{seen, given, in_order};
+ghost use Rattle.grid.specs.Layouts.{seen, given, in_order, shaped, reaching};
 
 use super::Layout;
-use super::overlap::{dim_stride_overlap, is_empty};
+use super::overlap::Axes;
 use crate::error::{Cause, GridCall, GridFault, at_call};
 use crate::shape_builder::Strides;
 use dimension::{
-    Dim, Dimension, IxDyn, Order, RowFault, default_strides, fortran_strides, lengths_within,
-    max_abs_offset_check_overflow, size_of_shape_checked, strides_non_negative, strides_within,
+    Dim, Dimension, IxDyn, LIMIT, Order, RowFault, default_strides, fortran_strides, is_empty,
+    lengths_within, max_abs_offset_check_overflow, size_of_shape_checked, strides_non_negative,
+    strides_within,
 };
-
-const LIMIT: usize = 1_048_576;
 
 /// Why opening is refused.
 fn refused(cause: Cause) -> GridFault
@@ -30,48 +29,41 @@ fn refused(cause: Cause) -> GridFault
     }
 }
 
-/// Refuses more cells than a grid may have.
-fn check_cells(cells: usize) -> Result<(), RowFault>
-    ensures { rowAnswered (λ u. u) result ≡ refuse (nat_lt limit cells) (in_rows 12) (Ok tt) }
+/// Makes the checks of an order that concern the rows alone, and answers the size.
+fn check_shape<D: Dimension>(cells: usize, dim: &D) -> Result<usize, RowFault>
+    ensures { rowAnswered (λ n. n) result ≡ shaped cells (D.Dimension.words dim.now) }
 {
     if cells > LIMIT {
-        Err(RowFault::SizeLimit)
-    } else {
-        Ok(())
+        return Err(RowFault::SizeLimit);
     }
+    let size = size_of_shape_checked(dim)?;
+    if !lengths_within(dim, LIMIT) {
+        return Err(RowFault::SizeLimit);
+    }
+    Ok(size)
 }
 
-/// Refuses lengths that are too many or too long together.
-fn check_lengths<D: Dimension>(dim: &D) -> Result<(), RowFault>
-    ensures { rowAnswered (λ u. u) result ≡ refuse (nat_lt limit (nonzeros (D.Dimension.words dim.now))) (in_rows 12) (Ok tt) }
+/// Makes the checks of a stride row that concern the rows alone, and answers the reach.
+fn check_row<D: Dimension, S: Dimension>(
+    cells: usize,
+    size: usize,
+    dim: &D,
+    row: &S,
+) -> Result<usize, RowFault>
+    ensures { rowAnswered (λ n. n) result ≡ reaching cells size (D.Dimension.words dim.now) (signed (S.Dimension.words row.now)) }
 {
-    if lengths_within(dim, LIMIT) {
-        Ok(())
-    } else {
-        Err(RowFault::SizeLimit)
+    if cells > LIMIT {
+        return Err(RowFault::SizeLimit);
     }
-}
-
-/// Refuses a stride of too great a magnitude.
-fn check_strides<S: Dimension>(strides: &S) -> Result<(), RowFault>
-    ensures { rowAnswered (λ u. u) result ≡ refuse (some_above limit (signed (S.Dimension.words strides.now))) (in_rows 12) (Ok tt) }
-{
-    if strides_within(strides, LIMIT) {
-        Ok(())
-    } else {
-        Err(RowFault::SizeLimit)
+    if dim.ndim() != row.ndim() {
+        return Err(RowFault::IncompatibleLayout);
     }
-}
-
-/// Refuses lengths and strides of different rank.
-fn check_rank<D: Dimension, S: Dimension>(dim: &D, strides: &S) -> Result<(), RowFault>
-    ensures { rowAnswered (λ u. u) result ≡ refuse (not (length (D.Dimension.words dim.now) == length (signed (S.Dimension.words strides.now)))) (in_rows 2) (Ok tt) }
-{
-    if dim.ndim() == strides.ndim() {
-        Ok(())
-    } else {
-        Err(RowFault::IncompatibleLayout)
+    strides_non_negative(row)?;
+    let far = max_abs_offset_check_overflow(size, dim, row)?;
+    if !lengths_within(dim, LIMIT) || !strides_within(row, LIMIT) {
+        return Err(RowFault::SizeLimit);
     }
+    Ok(far)
 }
 
 /// Whether a reach leaves the cells; a grid without cells may end where they end.
@@ -95,9 +87,7 @@ fn strides_in<D: Dimension>(dim: &D, order: Order) -> Result<D, RowFault>
 fn open_ordered<D: Dimension>(cells: usize, dim: &D, order: Order) -> Result<Layout, GridFault>
     ensures { answered seen result ≡ calling GridCall.Open (ordered cells (D.Dimension.words dim.now) (in_order order (D.Dimension.words dim.now))) }
 {
-    at_call(check_cells(cells), GridCall::Open)?;
-    let size = at_call(size_of_shape_checked(dim), GridCall::Open)?;
-    at_call(check_lengths(dim), GridCall::Open)?;
+    let size = at_call(check_shape(cells, dim), GridCall::Open)?;
     if cells < size {
         return Err(refused(Cause::OutOfBounds));
     }
@@ -120,19 +110,17 @@ fn can_index_slice<D: Dimension, S: Dimension>(
 ) -> Result<(), GridFault>
     ensures { answered (λ _. fresh cells (D.Dimension.words dim.now) (signed (S.Dimension.words row.now))) result ≡ calling GridCall.Open (strided cells size (D.Dimension.words dim.now) (signed (S.Dimension.words row.now))) }
 {
-    at_call(check_cells(cells), GridCall::Open)?;
-    at_call(check_rank(dim, row), GridCall::Open)?;
-    at_call(strides_non_negative(row), GridCall::Open)?;
-    let far = at_call(
-        max_abs_offset_check_overflow(size, dim, row),
-        GridCall::Open,
-    )?;
-    at_call(check_lengths(dim), GridCall::Open)?;
-    at_call(check_strides(row), GridCall::Open)?;
+    let far = at_call(check_row(cells, size, dim, row), GridCall::Open)?;
     if too_few(cells, far, is_empty(dim)) {
         return Err(refused(Cause::OutOfBounds));
     }
-    if dim_stride_overlap(dim, row) {
+    let lens = IxDyn::copy_of(dim);
+    let strides = IxDyn::copy_of(row);
+    let axes = Axes {
+        lens: lens.as_slice(),
+        strides: strides.as_slice(),
+    };
+    if axes.overlap() {
         return Err(refused(Cause::Rows(RowFault::Unsupported)));
     }
     Ok(())

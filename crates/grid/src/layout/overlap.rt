@@ -1,20 +1,16 @@
 ghost use Rattle.std.specs.Prelude.{◌≡◌, ◌-◌, ◌*◌, ◌^◌, ◌≤◌, cond, length, if◌then◌else◌, nat_le};
 ghost use Rattle.laws.specs.Strides.{signed};
-ghost use Rattle.laws.specs.Lengths.{some_zero};
 ghost use Rattle.laws.specs.Opening.{span, span_others, crowded, overlaps};
 
-use dimension::{Dimension, magnitude, word_at};
+use dimension::magnitude;
 
-/// Whether some length is 0.
-pub(super) fn is_empty<D: Dimension>(dim: &D) -> bool
-    ensures { result ≡ some_zero (D.Dimension.words dim.now) }
-{
-    for place in 0..dim.ndim() {
-        if word_at(dim, place) == 0 {
-            return true;
-        }
-    }
-    false
+/// Lengths and strides of one rank, whose reach is within 63 bits.
+#[derive(Clone, Copy)]
+pub(super) struct Axes<'a> {
+    pub(super) lens: &'a [usize],
+    pub(super) strides: &'a [usize],
+    ghost rank: { length lens.now ≡ length strides.now },
+    ghost fits: { span lens.now (signed strides.now) ≤ 2 ^ 63 - 1 },
 }
 
 /// What one axis adds to the reach of the axes of magnitude at most `most`; an axis that is left out adds nothing.
@@ -22,56 +18,45 @@ fn axis_share(left_out: bool, length: usize, step: usize, most: usize) -> usize
     requires { (length - 1) * step ≤ 2 ^ 63 - 1 }
     ensures { result ≡ cond left_out 0 (if nat_le step most then (length - 1) * step else 0) }
 {
-    if left_out {
+    if left_out || step > most {
         return 0;
     }
-    if step <= most {
-        length.saturating_sub(1) * step
-    } else {
-        0
-    }
+    length.saturating_sub(1) * step
 }
 
-/// The reach of the axes other than this one whose magnitude is at most `most`.
-fn span_others<D: Dimension, S: Dimension>(dim: &D, strides: &S, axis: usize, most: usize) -> usize
-    requires rank { length (D.Dimension.words dim.now) ≡ length (S.Dimension.words strides.now) }
-    requires fits { span (D.Dimension.words dim.now) (signed (S.Dimension.words strides.now)) ≤ 2 ^ 63 - 1 }
-    ensures { result ≡ span_others axis most (D.Dimension.words dim.now) (signed (S.Dimension.words strides.now)) }
-{
-    let mut far = 0;
-    for place in 0..dim.ndim() {
-        let step = magnitude(word_at(strides, place));
-        far += axis_share(place == axis, word_at(dim, place), step, most);
-    }
-    far
-}
-
-/// Whether an axis is longer than 1 and its stride at most the reach of the other axes of no greater magnitude.
-fn is_crowded<D: Dimension, S: Dimension>(dim: &D, strides: &S, axis: usize) -> bool
-    requires rank { length (D.Dimension.words dim.now) ≡ length (S.Dimension.words strides.now) }
-    requires fits { span (D.Dimension.words dim.now) (signed (S.Dimension.words strides.now)) ≤ 2 ^ 63 - 1 }
-    ensures { result ≡ crowded (D.Dimension.words dim.now) (signed (S.Dimension.words strides.now)) axis }
-{
-    if word_at(dim, axis) <= 1 {
-        return false;
-    }
-    let step = magnitude(word_at(strides, axis));
-    step <= span_others(dim, strides, axis, step)
-}
-
-/// Whether two tuples may have one cell; a grid without cells has no tuples.
-pub(super) fn dim_stride_overlap<D: Dimension, S: Dimension>(dim: &D, strides: &S) -> bool
-    requires rank { length (D.Dimension.words dim.now) ≡ length (S.Dimension.words strides.now) }
-    requires fits { span (D.Dimension.words dim.now) (signed (S.Dimension.words strides.now)) ≤ 2 ^ 63 - 1 }
-    ensures { result ≡ overlaps (D.Dimension.words dim.now) (signed (S.Dimension.words strides.now)) }
-{
-    if is_empty(dim) {
-        return false;
-    }
-    for axis in 0..dim.ndim() {
-        if is_crowded(dim, strides, axis) {
-            return true;
+impl<'a> Axes<'a> {
+    /// The reach of the axes other than this one whose magnitude is at most `most`.
+    fn span_others(&self, axis: usize, most: usize) -> usize
+        ensures { result ≡ span_others axis most self.now.lens.now (signed self.now.strides.now) }
+    {
+        let mut far = 0;
+        for (place, (length, stride)) in self.lens.iter().zip(self.strides).enumerate() {
+            far += axis_share(place == axis, *length, magnitude(*stride), most);
         }
+        far
     }
-    false
+
+    /// Whether an axis is longer than 1 and its stride at most the reach of the other axes of no greater magnitude.
+    fn is_crowded(&self, axis: usize) -> bool
+        ensures { result ≡ crowded self.now.lens.now (signed self.now.strides.now) axis }
+    {
+        let length = self.lens.get(axis).copied().unwrap_or(0);
+        let step = magnitude(self.strides.get(axis).copied().unwrap_or(0));
+        length > 1 && step <= self.span_others(axis, step)
+    }
+
+    /// Whether two tuples may have one cell; a grid without cells has no tuples.
+    pub(super) fn overlap(&self) -> bool
+        ensures { result ≡ overlaps self.now.lens.now (signed self.now.strides.now) }
+    {
+        if self.lens.contains(&0) {
+            return false;
+        }
+        for axis in 0..self.lens.len() {
+            if self.is_crowded(axis) {
+                return true;
+            }
+        }
+        false
+    }
 }

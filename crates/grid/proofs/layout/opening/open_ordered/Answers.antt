@@ -4,13 +4,13 @@ use Rattle.laws.specs.Lengths.{product, nonzeros}
 use Rattle.laws.specs.Faults.{in_rows}
 use Rattle.laws.specs.Strides.{signed}
 use Rattle.laws.specs.Space.{Seen, Sound}
-use Rattle.laws.specs.Opening.{limit, most, fresh}
+use Rattle.laws.specs.Opening.{most, fresh}
 use Rattle.dimension.specs.Rows.{listed}
 use Rattle.grid.specs.declared.error.GridCall.TheVariants.{Open}
-use Rattle.grid.specs.Layouts.{in_order}
-use Rattle.grid.proofs.Errors.{went_on}
+use Rattle.grid.specs.Layouts.{in_order, shaped}
+use Rattle.grid.proofs.Errors.{went_on, took_rows}
 use Rattle.grid.proofs.Layouts.{kept}
-use Rattle.grid.proofs.Opening.{ordered_sound, signed-order}
+use Rattle.grid.proofs.Opening.{ordered_sound, signed-order, shape_passed}
 use Rattle.grid.proofs.layout.opening.open_ordered.Goals as goal
 
 pub invariant_of-result : goal.invariant_of-result
@@ -18,9 +18,11 @@ invariant_of-result g c =
     let cells = c.args.cells in
     let ls = g.D.Dimension.words c.args.dim.now in
     let few : length ls ≤ 8 = (g.D.Dimension.owed c.args.dim.now).few in
-    let narrow = (went_on (λ u. u) Open (ltb limit cells) (in_rows 12) tt c.check_cells.result c.in_ok-at_call.field-0 c.in_ok-at_call.ensures c.check_cells.ensures).0 in
-    let size = (went_on (λ n. n) Open (ltb most (nonzeros ls)) (in_rows 6) (product ls) c.size_of_shape_checked.result c.in_ok-size.size c.in_ok-size.ensures c.size_of_shape_checked.ensures).1 in
-    let small = (went_on (λ u. u) Open (ltb limit (nonzeros ls)) (in_rows 12) tt c.check_lengths.result c.in_ok-at_call-2.field-0 c.in_ok-at_call-2.ensures c.check_lengths.ensures).0 in
+    let told = took_rows (λ n. n) Open (shaped cells ls) c.check_shape.result c.in_ok-size.size c.in_ok-size.ensures c.check_shape.ensures in
+    let passed = shape_passed cells ls c.in_ok-size.size told in
+    let narrow = passed.0 in
+    let small = passed.2 in
+    let size = passed.3 in
     let row = (went_on listed Open (ltb most (nonzeros (listed c.copy_of-lens.result))) (in_rows 6) (in_order c.args.order (listed c.copy_of-lens.result)) c.strides_in.result c.in_ok-strides.strides c.in_ok-strides.ensures c.strides_in.ensures).1 in
     let zs : signed (listed c.in_ok-strides.strides) ≡ map pos (in_order c.args.order ls) =
     ap signed (row ∙ ap (in_order c.args.order) c.copy_of-lens.ensures) ∙ signed-order c.args.order ls small in
@@ -33,11 +35,12 @@ pub returns : goal.returns
 returns g c =
     let cells = c.args.cells in
     let ls = g.D.Dimension.words c.args.dim.now in
-    let narrow = (went_on (λ u. u) Open (ltb limit cells) (in_rows 12) tt c.check_cells.result c.in_ok-at_call.field-0 c.in_ok-at_call.ensures c.check_cells.ensures).0 in
-    let sized = went_on (λ n. n) Open (ltb most (nonzeros ls)) (in_rows 6) (product ls) c.size_of_shape_checked.result c.in_ok-size.size c.in_ok-size.ensures c.size_of_shape_checked.ensures in
-    let fits = sized.0 in
-    let size = sized.1 in
-    let small = (went_on (λ u. u) Open (ltb limit (nonzeros ls)) (in_rows 12) tt c.check_lengths.result c.in_ok-at_call-2.field-0 c.in_ok-at_call-2.ensures c.check_lengths.ensures).0 in
+    let told = took_rows (λ n. n) Open (shaped cells ls) c.check_shape.result c.in_ok-size.size c.in_ok-size.ensures c.check_shape.ensures in
+    let passed = shape_passed cells ls c.in_ok-size.size told in
+    let narrow = passed.0 in
+    let fits = passed.1 in
+    let small = passed.2 in
+    let size = passed.3 in
     let enough : ltb cells (product ls) ≡ false = le-ltb _ _ (omega arith) in
     let row = (went_on listed Open (ltb most (nonzeros (listed c.copy_of-lens.result))) (in_rows 6) (in_order c.args.order (listed c.copy_of-lens.result)) c.strides_in.result c.in_ok-strides.strides c.in_ok-strides.ensures c.strides_in.ensures).1 in
     let zs : signed (listed c.in_ok-strides.strides) ≡ map pos (in_order c.args.order ls) =
