@@ -16,9 +16,7 @@ fn elem_fault(place: usize, length: usize, elem: SliceInfoElem) -> Option<SliceF
     ensures { found result ≡ elem_fault place length (elem_of elem) }
 {
     match elem {
-        SliceInfoElem::Slice { start, end, step } => {
-            resolve_slice(place, length, start, end, step).err()
-        }
+        SliceInfoElem::Slice(range) => resolve_slice(place, length, range).err(),
         SliceInfoElem::Index(index) => resolve_index(place, length, index).err(),
         SliceInfoElem::NewAxis => None,
     }

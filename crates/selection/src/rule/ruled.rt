@@ -5,18 +5,12 @@ ghost use Rattle.selection.specs.Rules.{ruled, ruled_owed, ruling};
 use super::AxisRule;
 use crate::arg::SliceArg;
 use crate::error::SliceFault;
-use crate::slice::SliceInfoElem;
+use crate::slice::{Slice, SliceInfoElem};
 
 impl AxisRule {
     /// A range on an axis below the rank, which is at most eight; whatever the range is.
-    pub fn new(
-        rank: usize,
-        axis: usize,
-        start: isize,
-        end: Option<isize>,
-        step: isize,
-    ) -> Result<AxisRule, SliceFault>
-        ensures { answered ruled result ≡ ruling rank axis start end step }
+    pub fn new(rank: usize, axis: usize, range: Slice) -> Result<AxisRule, SliceFault>
+        ensures { answered ruled result ≡ ruling rank axis range.start range.end range.step }
     {
         if rank > 8 {
             return Err(SliceFault::RankLimit);
@@ -24,13 +18,7 @@ impl AxisRule {
         if axis >= rank {
             return Err(SliceFault::Outside(axis));
         }
-        Ok(AxisRule {
-            rank,
-            axis,
-            start,
-            end,
-            step,
-        })
+        Ok(AxisRule { rank, axis, range })
     }
 }
 
@@ -51,17 +39,9 @@ impl SliceArg for AxisRule {
         if place >= self.rank {
             None
         } else if place == self.axis {
-            Some(SliceInfoElem::Slice {
-                start: self.start,
-                end: self.end,
-                step: self.step,
-            })
+            Some(SliceInfoElem::Slice(self.range))
         } else {
-            Some(SliceInfoElem::Slice {
-                start: 0,
-                end: None,
-                step: 1,
-            })
+            Some(SliceInfoElem::Slice(Slice::WHOLE))
         }
     }
 

@@ -1,5 +1,4 @@
-use Rattle.std.proofs.Common.{arith, w64, SFits, rules}
-use Rattle.std.proofs.lemmas.Int.{to_z-of_z}
+use Rattle.std.proofs.Common.{arith, rules}
 use Rattle.laws.proofs.Selections.{nth_among, nth_among_other, nth_among_past}
 use Rattle.selection.proofs.rule.ruled.AxisRuleSliceArg.elem.Goals as goal
 
@@ -8,9 +7,7 @@ returns-then-place-self c = nth_among_past c.args.self.now.rank c.args.self.now.
 
 pub returns-then-place-self-2 : goal.returns-then-place-self-2
 returns-then-place-self-2 c =
-    let f : SFits w64 c.args.self.now.start = search rules in
-    let g : SFits w64 c.args.self.now.step = search rules in
-    simp to_z-of_z (nth_among c.args.self.now.rank c.args.self.now.axis _ _ c.args.place (omega arith) (search rules))
+    nth_among c.args.self.now.rank c.args.self.now.axis _ _ c.args.place (omega arith) (search rules)
 
 pub returns-else-place-self-2 : goal.returns-else-place-self-2
 returns-else-place-self-2 c =
