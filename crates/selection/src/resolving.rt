@@ -43,13 +43,9 @@ pub fn abs_index(length: usize, place: isize) -> Option<usize>
     ensures { result ≡ placed length place }
 {
     if place >= 0 {
-        return Some(place as usize);
-    }
-    let back = place.unsigned_abs();
-    if back <= length {
-        Some(length - back)
+        Some(place as usize)
     } else {
-        None
+        length.checked_sub(place.unsigned_abs())
     }
 }
 
@@ -57,24 +53,16 @@ pub fn abs_index(length: usize, place: isize) -> Option<usize>
 fn abs_end(length: usize, end: Option<isize>) -> Option<usize>
     ensures { result ≡ placed_end length end }
 {
-    match end {
-        Some(place) => abs_index(length, place),
-        None => Some(length),
-    }
+    end.map_or(Some(length), |place| abs_index(length, place))
 }
 
 /// Where a range begins and stops on an axis of this length; none where it is outside.
 fn bounds(length: usize, start: isize, end: Option<isize>) -> Option<(usize, usize)>
     ensures { result ≡ spanned length start end }
 {
-    let Some(from) = abs_index(length, start) else {
-        return None;
-    };
-    let Some(stop) = abs_end(length, end) else {
-        return None;
-    };
-    let to = from.max(stop);
-    if to > length { None } else { Some((from, to)) }
+    let from = abs_index(length, start)?;
+    let to = from.max(abs_end(length, end)?);
+    (to <= length).then_some((from, to))
 }
 
 /// Whether a step is 0 or of too great a magnitude.
@@ -104,8 +92,7 @@ pub fn resolve_index(place: usize, length: usize, index: isize) -> Result<usize,
     ensures answer { answered (λ n. n) result ≡ indexed place length index }
     ensures law { IfOk result (λ n. n < length) }
 {
-    match abs_index(length, index) {
-        Some(at) if at < length => Ok(at),
-        _ => Err(SliceFault::Outside(place)),
-    }
+    abs_index(length, index)
+        .filter(|at| *at < length)
+        .ok_or(SliceFault::Outside(place))
 }
