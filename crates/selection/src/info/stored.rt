@@ -29,11 +29,8 @@ impl SliceInfo {
             return Err(SliceFault::RankLimit);
         }
         let in_ndim = Lent(list).in_ndim();
-        if is_unexpected(in_dim, in_ndim) {
-            return Err(SliceFault::IncompatibleShape);
-        }
         let out_ndim = Lent(list).out_ndim();
-        if is_unexpected(out_dim, out_ndim) {
+        if is_unexpected(in_dim, in_ndim) || is_unexpected(out_dim, out_ndim) {
             return Err(SliceFault::IncompatibleShape);
         }
         let mut elems = [SliceInfoElem::NewAxis; 16];
