@@ -2,6 +2,7 @@
 #![tactic(auto)]
 
 mod arg;
+mod elems;
 mod error;
 mod info;
 mod lent;
@@ -11,6 +12,7 @@ mod slice;
 mod slicing;
 
 pub use arg::SliceArg;
+pub use elems::Elems;
 pub use error::SliceFault;
 pub use info::SliceInfo;
 pub use lent::Lent;
