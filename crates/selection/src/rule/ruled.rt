@@ -36,13 +36,12 @@ impl SliceArg for AxisRule {
     }
 
     fn elem(&self, place: usize) -> Option<SliceInfoElem> {
-        if place >= self.rank {
-            None
-        } else if place == self.axis {
-            Some(SliceInfoElem::Slice(self.range))
+        let range = if place == self.axis {
+            self.range
         } else {
-            Some(SliceInfoElem::Slice(Slice::WHOLE))
-        }
+            Slice::WHOLE
+        };
+        (place < self.rank).then_some(SliceInfoElem::Slice(range))
     }
 
     fn in_ndim(&self) -> usize {
