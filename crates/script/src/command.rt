@@ -2,6 +2,7 @@ ghost use Rattle.std.specs.Prelude.{◌≡◌, T};
 
 use crate::selected::Selection;
 use cells::PayLine;
+use selection::Slice;
 use std::fmt;
 
 /// A part of a line beside the column where it begins, counted from 1.
@@ -98,20 +99,12 @@ pub struct Filling {
     pub value: Marked<Value>,
 }
 
-/// A range of an axis: from where, up to where if that is said, and in which steps.
-#[derive(Clone, Copy)]
-pub struct AxisRange {
-    pub start: isize,
-    pub end: Option<isize>,
-    pub step: isize,
-}
-
 /// A range on one axis of so many, with all others whole.
 #[derive(Clone, Copy)]
 pub struct Ruling {
     pub rank: usize,
     pub axis: usize,
-    pub range: AxisRange,
+    pub range: Slice,
 }
 
 /// A selection to store, with the counts of axes that it should take and leave, where they are said.

@@ -8,7 +8,7 @@ mod scan;
 mod selected;
 
 pub use command::{
-    Arrangement, AxisRange, Change, Command, Filling, Kind, Marked, Opening, Ruling, Storing, Value,
+    Arrangement, Change, Command, Filling, Kind, Marked, Opening, Ruling, Storing, Value,
 };
 pub use expected::{Expected, Noun, What};
 pub use parse::parse_line;

@@ -1,6 +1,6 @@
 ghost use Rattle.std.specs.Prelude.{◌≡◌};
 
-use selection::{Lent, SliceArg, SliceInfoElem};
+use selection::{Lent, Slice, SliceArg, SliceInfoElem};
 use std::fmt;
 
 /// A selection of a grid, as it is written.
@@ -49,19 +49,15 @@ pub fn write_selection<W: fmt::Write, S: SliceArg>(
 /// Writes one element.
 fn write_elem<W: fmt::Write>(f: &mut fmt::Formatter<W>, elem: SliceInfoElem) -> fmt::Result {
     match elem {
-        SliceInfoElem::Slice { start, end, step } => write_range(f, start, end, step),
+        SliceInfoElem::Slice(range) => write_range(f, range),
         SliceInfoElem::Index(index) => write!(f, "{index}"),
         SliceInfoElem::NewAxis => f.write_str("NewAxis"),
     }
 }
 
 /// Writes a range: its start unless that is 0, its end if it has one, its step unless that is 1.
-fn write_range<W: fmt::Write>(
-    f: &mut fmt::Formatter<W>,
-    start: isize,
-    end: Option<isize>,
-    step: isize,
-) -> fmt::Result {
+fn write_range<W: fmt::Write>(f: &mut fmt::Formatter<W>, range: Slice) -> fmt::Result {
+    let Slice { start, end, step } = range;
     if start != 0 {
         write!(f, "{start}")?;
     }

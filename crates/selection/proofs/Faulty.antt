@@ -1,11 +1,9 @@
 -- The first faulty element, as a loop looks for it.
-use Rattle.std.proofs.Common.{◌≡◌, ℕ, suc, ◌+◌, ◌<◌, ◌≤◌, Bool, true, false, cond, List, ◌∷◌, length, get_or, drop, ℤ, Some, None, Ok, Option, sym, refl, ap, ◌∙◌, add-zero, add-one, arith}
-use Rattle.std.specs.List.{slice_get}
-use Rattle.std.proofs.lemmas.List.{drop_more, at_drop_all}
+use Rattle.std.proofs.Common.{◌≡◌, ℕ, suc, ◌+◌, Bool, true, false, cond, List, ◌∷◌, length, get_or, drop, ℤ, Some, None, Ok, Option, sym, refl, ap, ◌∙◌, add-zero, add-one, arith}
+use Rattle.std.proofs.lemmas.List.{drop_more}
 use Rattle.laws.specs.Faults.{Fault, refuse}
 use Rattle.laws.specs.Elements.{Elem, Slice, Index, NewAxis, in_count, resolved, upper, outside, outside_index, bad_step}
 use Rattle.laws.specs.Slicing.{first_fault}
-use Rattle.laws.proofs.Selections.{drop_at}
 use Rattle.selection.specs.Slices.{is_new_axis}
 use Rattle.selection.specs.Errors.{at_place}
 use Rattle.selection.specs.Resolving.{fault_in, elem_fault}
@@ -49,29 +47,23 @@ fault-cons k axis (Index i) es ws h =
 fault-cons k axis NewAxis es ws h =
     ap (λ n. first_fault n es (drop axis ws)) (sym (add-one k)) ∙ ap (λ n. first_fault (k + 1) es (drop n ws)) (sym (add-zero axis))
 
--- the element at place k, before which the axes up to `axis` are used up
-module _ (es : List Elem) (ws : List ℕ) (k axis : ℕ) (e : Elem) (h : k < length es) (at : Some e ≡ slice_get es k) (all : axis + in_count (drop k es) ≡ length ws) where
-  split : drop k es ≡ e ∷ drop (k + 1) es
-  split = drop_at es k e h at
+-- what is left from place k on, before which the axes up to `axis` are used up
+module _ (left rest : List Elem) (ws : List ℕ) (k axis : ℕ) (e : Elem) (split : left ≡ e ∷ rest) (all : axis + in_count left ≡ length ws) where
+  pub counts_more : axis + adds (is_new_axis e) + in_count rest ≡ length ws
+  counts_more = omega (arith, all, ap in_count split, takes_more e rest)
 
-  pub counts_more : axis + adds (is_new_axis e) + in_count (drop (k + 1) es) ≡ length ws
-  counts_more = omega (arith, all, ap in_count split, takes_more e (drop (k + 1) es))
-
-  fault_at : first_fault k (drop k es) (drop axis ws) ≡ or_else (elem_fault k (get_or ws axis 0) e) (first_fault (k + 1) (drop (k + 1) es) (drop (axis + adds (is_new_axis e)) ws))
+  fault_at : first_fault k left (drop axis ws) ≡ or_else (elem_fault k (get_or ws axis 0) e) (first_fault (k + 1) rest (drop (axis + adds (is_new_axis e)) ws))
   fault_at =
       ap (λ r. first_fault k r (drop axis ws)) split
-      ∙ fault-cons k axis e (drop (k + 1) es) ws (ap (λ r. axis + in_count r) (sym split) ∙ all)
+      ∙ fault-cons k axis e rest ws (ap (λ r. axis + in_count r) (sym split) ∙ all)
 
   module _ (d : ℕ) (length-is : d ≡ get_or ws axis 0) where
-    pub fault-found : (f : Fault) → Some f ≡ elem_fault k d e → Some f ≡ first_fault k (drop k es) (drop axis ws)
+    pub fault-found : (f : Fault) → Some f ≡ elem_fault k d e → Some f ≡ first_fault k left (drop axis ws)
     fault-found f r =
         let told : elem_fault k (get_or ws axis 0) e ≡ Some f = ap (λ n. elem_fault k n e) (sym length-is) ∙ sym r in
-        sym (fault_at ∙ ap (λ o. or_else o (first_fault (k + 1) (drop (k + 1) es) (drop (axis + adds (is_new_axis e)) ws))) told)
+        sym (fault_at ∙ ap (λ o. or_else o (first_fault (k + 1) rest (drop (axis + adds (is_new_axis e)) ws))) told)
 
-    pub fault_passed : None ≡ elem_fault k d e → first_fault (k + 1) (drop (k + 1) es) (drop (axis + adds (is_new_axis e)) ws) ≡ first_fault k (drop k es) (drop axis ws)
+    pub fault_passed : None ≡ elem_fault k d e → first_fault (k + 1) rest (drop (axis + adds (is_new_axis e)) ws) ≡ first_fault k left (drop axis ws)
     fault_passed r =
         let told : elem_fault k (get_or ws axis 0) e ≡ None = ap (λ n. elem_fault k n e) (sym length-is) ∙ sym r in
-        sym (fault_at ∙ ap (λ o. or_else o (first_fault (k + 1) (drop (k + 1) es) (drop (axis + adds (is_new_axis e)) ws))) told)
-
-pub fault_none : (es : List Elem) (ws : List ℕ) (k axis : ℕ) → length es ≤ k → first_fault k (drop k es) (drop axis ws) ≡ None
-fault_none es ws k axis h = at_drop_all (λ r. first_fault k r (drop axis ws)) es k h
+        sym (fault_at ∙ ap (λ o. or_else o (first_fault (k + 1) rest (drop (axis + adds (is_new_axis e)) ws))) told)

@@ -1,3 +1,3 @@
 mod Counts
-mod Storing
 mod Faulty
+mod Walks

@@ -4,3 +4,4 @@ pub mod Args
 pub mod Infos
 pub mod Rules
 pub mod Resolving
+pub mod Walks

@@ -17,12 +17,12 @@ abbrev pub one_range : ℕ → ℕ → ℤ → Option ℤ → ℤ → List Elem
 one_range rank axis s e p = slice_set (replicate rank whole) axis (Slice s e p)
 
 abbrev pub ruled : AxisRule → List Elem
-ruled x = one_range x.rank x.axis x.start x.end x.step
+ruled x = one_range x.rank x.axis x.range.start x.range.end x.range.step
 
 pub ruled_owed : (x : AxisRule) → Counted (ruled x) x.rank x.rank
 ruled_owed x = record {
-  takes = sym (takes_among x.rank x.axis (pos 0) None (pos 1) x.start x.end x.step);
-  leaves = sym (leaves_among x.rank x.axis (pos 0) None (pos 1) x.start x.end x.step);
+  takes = sym (takes_among x.rank x.axis (pos 0) None (pos 1) x.range.start x.range.end x.range.step);
+  leaves = sym (leaves_among x.rank x.axis (pos 0) None (pos 1) x.range.start x.range.end x.range.step);
 }
 
 -- making the rule; 11 for a rank above 8, then 14 at the axis where that is not below the rank

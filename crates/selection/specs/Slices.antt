@@ -6,7 +6,7 @@ use Rattle.selection.specs.declared.slice.SliceInfoElem.TheVariants as held
 
 -- what an element means
 abbrev pub elem_of : SliceInfoElem → Elem
-elem_of (held.Slice s e p) = Slice s e p
+elem_of (held.Slice r) = Slice r.start r.end r.step
 elem_of (held.Index i) = Index i
 elem_of held.NewAxis = NewAxis
 

@@ -1,9 +1,11 @@
-ghost use Rattle.std.specs.Prelude.{◌≡◌, ℕ, List, length};
+ghost use Rattle.std.specs.Prelude.{◌≡◌, ℕ, ◌^◌, ◌<◌, List, length};
 ghost use Rattle.std.specs.List.{slice_get};
 ghost use Rattle.laws.specs.Elements.{Elem};
 ghost use Rattle.selection.specs.Args.{Counted};
 ghost use Rattle.selection.specs.Slices.{meant};
+ghost use Rattle.selection.specs.Walks.{elems_left};
 
+use crate::elems::Elems;
 use crate::slice::SliceInfoElem;
 
 /// A selection is a list of elements; code above it is right by that list alone.
@@ -27,6 +29,19 @@ pub trait SliceArg {
     /// The element at a place, or none past the end.
     fn elem(&self, place: usize) -> Option<SliceInfoElem>
         ensures { meant result ≡ slice_get (elems self.now) place };
+
+    /// The elements, one after another.
+    final fn iter(&self) -> Elems<'_, Self>
+    where
+        Self: Sized,
+        ensures elems { elems_left elems result ≡ elems self.now }
+        ensures bound { length (elems self.now) < 2 ^ 64 }
+    {
+        Elems {
+            sel: self,
+            places: 0..self.len(),
+        }
+    }
 
     /// How many axes the selection takes.
     fn in_ndim(&self) -> usize

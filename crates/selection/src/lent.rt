@@ -23,30 +23,14 @@ impl<'a> SliceArg for Lent<'a> {
     }
 
     fn elem(&self, place: usize) -> Option<SliceInfoElem> {
-        if place < self.0.len() {
-            Some(self.0[place])
-        } else {
-            None
-        }
+        self.0.get(place).copied()
     }
 
     fn in_ndim(&self) -> usize {
-        let mut taken = 0;
-        for elem in self.0 {
-            if !elem.is_new_axis() {
-                taken += 1;
-            }
-        }
-        taken
+        self.0.iter().filter(|elem| !elem.is_new_axis()).count()
     }
 
     fn out_ndim(&self) -> usize {
-        let mut left = 0;
-        for elem in self.0 {
-            if !elem.is_index() {
-                left += 1;
-            }
-        }
-        left
+        self.0.iter().filter(|elem| !elem.is_index()).count()
     }
 }

@@ -2,6 +2,7 @@
 #![tactic(auto)]
 
 mod arg;
+mod elems;
 mod error;
 mod info;
 mod lent;
@@ -11,10 +12,11 @@ mod slice;
 mod slicing;
 
 pub use arg::SliceArg;
+pub use elems::Elems;
 pub use error::SliceFault;
 pub use info::SliceInfo;
 pub use lent::Lent;
-pub use resolving::{abs_index, entry_count, first_index, resolve_index, resolve_slice};
+pub use resolving::{Span, abs_index, resolve_index, resolve_slice};
 pub use rule::AxisRule;
-pub use slice::SliceInfoElem;
+pub use slice::{Slice, SliceInfoElem};
 pub use slicing::slice_fault;

@@ -4,19 +4,48 @@ ghost use Rattle.selection.specs.Errors.{answered};
 ghost use Rattle.selection.specs.Resolving.{placed, placed_end, spanned, Bounded, ranged, indexed};
 
 use crate::error::SliceFault;
+use crate::slice::Slice;
+
+/// Where a range begins and stops on its axis, and in which steps it goes.
+#[derive(Clone, Copy, PartialEq, Eq, Debug)]
+pub struct Span {
+    pub from: usize,
+    pub to: usize,
+    pub step: isize,
+}
+
+impl Span {
+    /// How many indices the range takes.
+    pub fn entry_count(&self) -> usize
+        ensures { result ≡ entries self.now.from self.now.to self.now.step }
+    {
+        let size = self.step.unsigned_abs();
+        if size == 0 {
+            return 0;
+        }
+        self.to.saturating_sub(self.from).div_ceil(size)
+    }
+
+    /// The first of the indices that the range takes.
+    pub fn first_index(&self) -> usize
+        ensures { result ≡ first self.now.from self.now.to self.now.step }
+    {
+        if self.step < 0 {
+            self.to.saturating_sub(1)
+        } else {
+            self.from
+        }
+    }
+}
 
 /// A place on an axis of this length, where a negative one counts from the end; none below 0.
 pub fn abs_index(length: usize, place: isize) -> Option<usize>
     ensures { result ≡ placed length place }
 {
     if place >= 0 {
-        return Some(place as usize);
-    }
-    let back = place.unsigned_abs();
-    if back <= length {
-        Some(length - back)
+        Some(place as usize)
     } else {
-        None
+        length.checked_sub(place.unsigned_abs())
     }
 }
 
@@ -24,24 +53,16 @@ pub fn abs_index(length: usize, place: isize) -> Option<usize>
 fn abs_end(length: usize, end: Option<isize>) -> Option<usize>
     ensures { result ≡ placed_end length end }
 {
-    match end {
-        Some(place) => abs_index(length, place),
-        None => Some(length),
-    }
+    end.map_or(Some(length), |place| abs_index(length, place))
 }
 
 /// Where a range begins and stops on an axis of this length; none where it is outside.
-fn span(length: usize, start: isize, end: Option<isize>) -> Option<(usize, usize)>
+fn bounds(length: usize, start: isize, end: Option<isize>) -> Option<(usize, usize)>
     ensures { result ≡ spanned length start end }
 {
-    let Some(from) = abs_index(length, start) else {
-        return None;
-    };
-    let Some(stop) = abs_end(length, end) else {
-        return None;
-    };
-    let to = from.max(stop);
-    if to > length { None } else { Some((from, to)) }
+    let from = abs_index(length, start)?;
+    let to = from.max(abs_end(length, end)?);
+    (to <= length).then_some((from, to))
 }
 
 /// Whether a step is 0 or of too great a magnitude.
@@ -53,23 +74,17 @@ fn is_bad_step(step: isize) -> bool
 }
 
 /// Where the range at a place of a selection begins and stops on its axis.
-pub fn resolve_slice(
-    place: usize,
-    length: usize,
-    start: isize,
-    end: Option<isize>,
-    step: isize,
-) -> Result<(usize, usize), SliceFault>
-    ensures answer { answered (λ p. p) result ≡ ranged place length start end step }
-    ensures law { IfOk result (λ p. Bounded length step p.0 p.1) }
+pub fn resolve_slice(place: usize, length: usize, range: Slice) -> Result<Span, SliceFault>
+    ensures answer { answered (λ s. (s.from, s.to)) result ≡ ranged place length range.start range.end range.step }
+    ensures law { IfOk result (λ s. Bounded length range.step s.from s.to) }
+    ensures steps { IfOk result (λ s. s.step ≡ range.step) }
 {
-    let Some((from, to)) = span(length, start, end) else {
-        return Err(SliceFault::Outside(place));
-    };
+    let Slice { start, end, step } = range;
+    let (from, to) = bounds(length, start, end).ok_or(SliceFault::Outside(place))?;
     if is_bad_step(step) {
         return Err(SliceFault::BadStep(place));
     }
-    Ok((from, to))
+    Ok(Span { from, to, step })
 }
 
 /// The index that an index at a place of a selection keeps of its axis.
@@ -77,26 +92,7 @@ pub fn resolve_index(place: usize, length: usize, index: isize) -> Result<usize,
     ensures answer { answered (λ n. n) result ≡ indexed place length index }
     ensures law { IfOk result (λ n. n < length) }
 {
-    match abs_index(length, index) {
-        Some(at) if at < length => Ok(at),
-        _ => Err(SliceFault::Outside(place)),
-    }
-}
-
-/// How many indices the range from one place to another takes.
-pub fn entry_count(from: usize, to: usize, step: isize) -> usize
-    ensures { result ≡ entries from to step }
-{
-    let size = step.unsigned_abs();
-    if size == 0 {
-        return 0;
-    }
-    to.saturating_sub(from).div_ceil(size)
-}
-
-/// The first of the indices that the range from one place to another takes.
-pub fn first_index(from: usize, to: usize, step: isize) -> usize
-    ensures { result ≡ first from to step }
-{
-    if step < 0 { to.saturating_sub(1) } else { from }
+    abs_index(length, index)
+        .filter(|at| *at < length)
+        .ok_or(SliceFault::Outside(place))
 }

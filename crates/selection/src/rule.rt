@@ -1,5 +1,7 @@
 ghost use Rattle.std.specs.Prelude.{◌<◌, ◌≤◌};
 
+use crate::slice::Slice;
+
 mod ruled;
 
 /// One range on one axis of a given rank, with all other axes whole.
@@ -7,9 +9,7 @@ mod ruled;
 pub struct AxisRule {
     rank: usize,
     axis: usize,
-    start: isize,
-    end: Option<isize>,
-    step: isize,
+    range: Slice,
     ghost few: { rank ≤ 8 },
     ghost within: { axis < rank },
 }

@@ -1,14 +1,27 @@
 ghost use Rattle.std.specs.Prelude.{◌≡◌};
 ghost use Rattle.selection.specs.Slices.{elem_of, is_index, is_new_axis};
 
+/// A range on an axis: where it starts and ends, and in which steps it goes.
+#[derive(Clone, Copy, PartialEq, Eq, Debug)]
+pub struct Slice {
+    pub start: isize,
+    pub end: Option<isize>,
+    pub step: isize,
+}
+
+impl Slice {
+    /// The range that takes a whole axis.
+    pub const WHOLE: Slice = Slice {
+        start: 0,
+        end: None,
+        step: 1,
+    };
+}
+
 /// One element of a selection: a range, an index, or a new axis.
 #[derive(Clone, Copy, PartialEq, Eq, Debug)]
 pub enum SliceInfoElem {
-    Slice {
-        start: isize,
-        end: Option<isize>,
-        step: isize,
-    },
+    Slice(Slice),
     Index(isize),
     NewAxis,
 }

@@ -16,9 +16,7 @@ fn elem_fault(place: usize, length: usize, elem: SliceInfoElem) -> Option<SliceF
     ensures { found result ≡ elem_fault place length (elem_of elem) }
 {
     match elem {
-        SliceInfoElem::Slice { start, end, step } => {
-            resolve_slice(place, length, start, end, step).err()
-        }
+        SliceInfoElem::Slice(range) => resolve_slice(place, length, range).err(),
         SliceInfoElem::Index(index) => resolve_index(place, length, index).err(),
         SliceInfoElem::NewAxis => None,
     }
@@ -30,10 +28,7 @@ fn first_fault<S: SliceArg, D: Dimension>(sel: &S, lens: &D) -> Option<SliceFaul
     ensures { found result ≡ first_fault 0 (S.SliceArg.elems sel.now) (D.Dimension.words lens.now) }
 {
     let mut axis = 0;
-    for place in 0..sel.len() {
-        let Some(elem) = sel.elem(place) else {
-            return None;
-        };
+    for (place, elem) in sel.iter().enumerate() {
         if let Some(fault) = elem_fault(place, word_at(lens, axis), elem) {
             return Some(fault);
         }

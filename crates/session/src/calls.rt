@@ -51,8 +51,7 @@ pub(crate) fn changed(layout: &mut Layout, change: &Change) -> Verdict {
 
 /// The selection that a rule makes.
 pub(crate) fn ruled(ruling: Ruling) -> Result<Answer, Refusal> {
-    let range = ruling.range;
-    match AxisRule::new(ruling.rank, ruling.axis, range.start, range.end, range.step) {
+    match AxisRule::new(ruling.rank, ruling.axis, ruling.range) {
         Ok(rule) => Ok(Answer::Ruled(rule)),
         Err(fault) => Err(Refusal::of_selection(fault, Called::Rule)),
     }

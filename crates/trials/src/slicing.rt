@@ -1,6 +1,6 @@
 use dimension::{Dim, Dimension, Ix1};
 use grid::{GridFault, Layout, Strides};
-use selection::{AxisRule, Lent, SliceInfo, SliceInfoElem};
+use selection::{AxisRule, Lent, Slice, SliceInfo, SliceInfoElem};
 use std::test::Fail;
 
 /// A line of ten cells.
@@ -14,7 +14,7 @@ fn cut(start: isize, end: Option<isize>, step: isize) -> Result<(usize, isize, u
     let Ok(grid) = line() else {
         return Err(0);
     };
-    match grid.slice_move(&Lent(&[SliceInfoElem::Slice { start, end, step }])) {
+    match grid.slice_move(&Lent(&[SliceInfoElem::Slice(Slice { start, end, step })])) {
         Ok(part) => {
             let length = part.lens().get(0).unwrap_or(0);
             let stride = part.strides().get(0).unwrap_or(0).cast_signed();
@@ -51,20 +51,18 @@ fn steps_and_places_at_their_limits(rt: HostRuntime) {
 fn three_kinds_of_selection_cut_alike(rt: HostRuntime) -> Result<(), Fail> {
     let order: Strides<Ix1> = Strides::C;
     let grid = Layout::open(12, 8, &Dim { index: [3, 4] }, &order)?;
-    let whole = SliceInfoElem::Slice {
-        start: 0,
-        end: None,
-        step: 1,
-    };
-    let part = SliceInfoElem::Slice {
+    let part = Slice {
         start: 1,
         end: None,
         step: 2,
     };
-    let list = [whole, part];
+    let list = [
+        SliceInfoElem::Slice(Slice::WHOLE),
+        SliceInfoElem::Slice(part),
+    ];
     let lent = grid.slice_move(&Lent(&list))?;
     let stored = grid.slice_move(&SliceInfo::new(&list, Some(2), None)?)?;
-    let ruled = grid.slice_move(&AxisRule::new(2, 1, 1, None, 2)?)?;
+    let ruled = grid.slice_move(&AxisRule::new(2, 1, part)?)?;
     assert_eq!(rt;
         (lent.start(), lent.lens().get(1), lent.strides().get(1)),
         (1, Some(2), Some(2))

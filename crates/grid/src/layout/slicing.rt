@@ -3,7 +3,7 @@ ghost use Rattle.std.specs.Int.{w64};
 ghost use Rattle.std.proofs.Common.{to_z};
 ghost use Rattle.laws.specs.Space.{inside};
 ghost use Rattle.laws.specs.Faults.{in_selection, refuse, unless};
-ghost use Rattle.laws.specs.Elements.{Slice, Index, in_count, out_count};
+ghost use Rattle.laws.specs.Elements.{Index, in_count, out_count};
 ghost use Rattle.laws.specs.Slicing.{cut_move, first_fault, sliced, slicing};
 ghost use Rattle.dimension.specs.Rows.{listed, pushed};
 ghost use Rattle.selection.specs.Slices.{elem_of};
@@ -15,9 +15,7 @@ ghost use Rattle.grid.specs.Slicing.{Goes, leaving};
 use super::Layout;
 use crate::error::{GridCall, GridFault, at_call};
 use dimension::{Dimension, IxDyn, stride_offset, word_at};
-use selection::{
-    SliceArg, SliceFault, SliceInfoElem, entry_count, first_index, resolve_index, resolve_slice,
-};
+use selection::{Slice, SliceArg, SliceFault, SliceInfoElem, Span, resolve_index, resolve_slice};
 
 /// A slice under way: the axis that comes next, the start, and the axes so far.
 #[derive(Clone, Copy)]
@@ -29,13 +27,13 @@ struct Cut {
 }
 
 /// The start after a range: its first index's strides on, if it keeps an index.
-fn cut_start(start: usize, stride: usize, from: usize, to: usize, step: isize) -> usize
-    ensures { T (inside (2 ^ 64) (pos start +ℤ cut_move from to step (to_z w64 stride))) → pos result ≡ pos start +ℤ cut_move from to step (to_z w64 stride) }
+fn cut_start(start: usize, stride: usize, span: Span) -> usize
+    ensures { T (inside (2 ^ 64) (pos start +ℤ cut_move span.from span.to span.step (to_z w64 stride))) → pos result ≡ pos start +ℤ cut_move span.from span.to span.step (to_z w64 stride) }
 {
-    if to <= from {
+    if span.to <= span.from {
         return start;
     }
-    stride_offset(start, first_index(from, to, step), stride)
+    stride_offset(start, span.first_index(), stride)
 }
 
 /// The stride after a range that leaves so many entries: stride × step, or 0 where at most one is left.
@@ -69,28 +67,21 @@ fn with_axis(cut: Cut, length: usize, stride: usize) -> Cut
 }
 
 /// A range keeps its entries of the next axis.
-fn cut_range(
-    grid: &Layout,
-    cut: Cut,
-    place: usize,
-    start: isize,
-    end: Option<isize>,
-    step: isize,
-) -> Result<Cut, SliceFault>
+fn cut_range(grid: &Layout, cut: Cut, place: usize, range: Slice) -> Result<Cut, SliceFault>
     requires { cut.axis ≤ 8 }
-    ensures { Goes (seen grid.now) cut place (Slice start end step) result }
+    ensures { Goes (seen grid.now) cut place (elem_of (SliceInfoElem.Slice range)) result }
 {
     let length = word_at(&grid.lens, cut.axis);
     let stride = word_at(&grid.strides, cut.axis);
-    let (from, to) = resolve_slice(place, length, start, end, step)?;
-    let count = entry_count(from, to, step);
-    let moved = cut_start(cut.start, stride, from, to, step);
+    let span = resolve_slice(place, length, range)?;
+    let count = span.entry_count();
+    let moved = cut_start(cut.start, stride, span);
     let rest = Cut {
         axis: cut.axis + 1,
         start: moved,
         ..cut
     };
-    Ok(with_axis(rest, count, cut_stride(stride, count, step)))
+    Ok(with_axis(rest, count, cut_stride(stride, count, span.step)))
 }
 
 /// An index keeps one place of the next axis, and drops the axis.
@@ -115,7 +106,7 @@ fn cut_elem(grid: &Layout, cut: Cut, place: usize, elem: SliceInfoElem) -> Resul
     ensures { Goes (seen grid.now) cut place (elem_of elem) result }
 {
     match elem {
-        SliceInfoElem::Slice { start, end, step } => cut_range(grid, cut, place, start, end, step),
+        SliceInfoElem::Slice(range) => cut_range(grid, cut, place, range),
         SliceInfoElem::Index(index) => cut_index(grid, cut, place, index),
         SliceInfoElem::NewAxis => Ok(with_axis(cut, 1, 0)),
     }

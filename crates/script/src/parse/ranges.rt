@@ -2,10 +2,11 @@ ghost use Rattle.std.specs.Prelude.{◌≡◌, length, IfErr};
 ghost use Rattle.script.specs.Cursors.{Column, Onward, Placed, bytes};
 
 use super::values::noted;
-use crate::command::{AxisRange, Marked};
+use crate::command::Marked;
 use crate::expected::{Expected, Noun, What};
 use crate::scan::Cursor;
 use crate::scan::numbers::integer;
+use selection::Slice;
 
 /// A piece of a range as a number, or none where it is empty.
 fn place(piece: Marked<&[u8]>, noun: Noun) -> Result<Option<isize>, Expected>
@@ -47,10 +48,7 @@ fn step(cursor: &mut Cursor<'_>) -> Result<isize, Expected>
 }
 
 /// A range of which the start is read; its end and its step may be left out.
-pub(super) fn range_from(
-    first: Marked<&[u8]>,
-    cursor: &mut Cursor<'_>,
-) -> Result<AxisRange, Expected>
+pub(super) fn range_from(first: Marked<&[u8]>, cursor: &mut Cursor<'_>) -> Result<Slice, Expected>
     requires { Column (length (bytes cursor.old)) first.column }
     ensures onward { Onward cursor.old cursor.new }
     ensures place { Placed (length (bytes cursor.old)) result }
@@ -59,11 +57,11 @@ pub(super) fn range_from(
     dots(cursor)?;
     let end = place(cursor.next_piece(), Noun::Stop)?;
     let step = step(cursor)?;
-    Ok(AxisRange { start, end, step })
+    Ok(Slice { start, end, step })
 }
 
 /// A range, of which all but the dots may be left out.
-pub(super) fn range(cursor: &mut Cursor<'_>) -> Result<AxisRange, Expected>
+pub(super) fn range(cursor: &mut Cursor<'_>) -> Result<Slice, Expected>
     ensures onward { Onward cursor.old cursor.new }
     ensures place { Placed (length (bytes cursor.old)) result }
 {

@@ -48,11 +48,7 @@ fn element(cursor: &mut Cursor<'_>) -> Result<SliceInfoElem, Expected>
         return lone(first);
     }
     let range = range_from(first, cursor)?;
-    Ok(SliceInfoElem::Slice {
-        start: range.start,
-        end: range.end,
-        step: range.step,
-    })
+    Ok(SliceInfoElem::Slice(range))
 }
 
 /// An element of one word: a new axis or an index.

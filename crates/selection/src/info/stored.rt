@@ -13,10 +13,7 @@ use crate::slice::SliceInfoElem;
 fn is_unexpected(expected: Option<usize>, count: usize) -> bool
     ensures { result ≡ unexpected expected count }
 {
-    match expected {
-        Some(number) => number != count,
-        None => false,
-    }
+    expected.is_some_and(|number| number != count)
 }
 
 impl SliceInfo {
@@ -32,17 +29,12 @@ impl SliceInfo {
             return Err(SliceFault::RankLimit);
         }
         let in_ndim = Lent(list).in_ndim();
-        if is_unexpected(in_dim, in_ndim) {
-            return Err(SliceFault::IncompatibleShape);
-        }
         let out_ndim = Lent(list).out_ndim();
-        if is_unexpected(out_dim, out_ndim) {
+        if is_unexpected(in_dim, in_ndim) || is_unexpected(out_dim, out_ndim) {
             return Err(SliceFault::IncompatibleShape);
         }
         let mut elems = [SliceInfoElem::NewAxis; 16];
-        for place in 0..list.len() {
-            elems[place] = list[place];
-        }
+        elems[..list.len()].copy_from_slice(list);
         Ok(SliceInfo {
             elems,
             len: list.len(),
@@ -66,11 +58,7 @@ impl SliceArg for SliceInfo {
     }
 
     fn elem(&self, place: usize) -> Option<SliceInfoElem> {
-        if place < self.len {
-            Some(self.elems[place])
-        } else {
-            None
-        }
+        self.elems[..self.len].get(place).copied()
     }
 
     fn in_ndim(&self) -> usize {

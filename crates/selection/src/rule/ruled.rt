@@ -5,18 +5,12 @@ ghost use Rattle.selection.specs.Rules.{ruled, ruled_owed, ruling};
 use super::AxisRule;
 use crate::arg::SliceArg;
 use crate::error::SliceFault;
-use crate::slice::SliceInfoElem;
+use crate::slice::{Slice, SliceInfoElem};
 
 impl AxisRule {
     /// A range on an axis below the rank, which is at most eight; whatever the range is.
-    pub fn new(
-        rank: usize,
-        axis: usize,
-        start: isize,
-        end: Option<isize>,
-        step: isize,
-    ) -> Result<AxisRule, SliceFault>
-        ensures { answered ruled result ≡ ruling rank axis start end step }
+    pub fn new(rank: usize, axis: usize, range: Slice) -> Result<AxisRule, SliceFault>
+        ensures { answered ruled result ≡ ruling rank axis range.start range.end range.step }
     {
         if rank > 8 {
             return Err(SliceFault::RankLimit);
@@ -24,13 +18,7 @@ impl AxisRule {
         if axis >= rank {
             return Err(SliceFault::Outside(axis));
         }
-        Ok(AxisRule {
-            rank,
-            axis,
-            start,
-            end,
-            step,
-        })
+        Ok(AxisRule { rank, axis, range })
     }
 }
 
@@ -48,21 +36,12 @@ impl SliceArg for AxisRule {
     }
 
     fn elem(&self, place: usize) -> Option<SliceInfoElem> {
-        if place >= self.rank {
-            None
-        } else if place == self.axis {
-            Some(SliceInfoElem::Slice {
-                start: self.start,
-                end: self.end,
-                step: self.step,
-            })
+        let range = if place == self.axis {
+            self.range
         } else {
-            Some(SliceInfoElem::Slice {
-                start: 0,
-                end: None,
-                step: 1,
-            })
-        }
+            Slice::WHOLE
+        };
+        (place < self.rank).then_some(SliceInfoElem::Slice(range))
     }
 
     fn in_ndim(&self) -> usize {
