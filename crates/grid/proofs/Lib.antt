@@ -7,3 +7,4 @@ pub mod Collapsing
 pub mod Merging
 pub mod Answering
 pub mod Reshaping
+pub mod Walking

@@ -1,0 +1,49 @@
+use Rattle.std.proofs.Common.{◌≡◌, ◌+◌, ◌≤◌, ◌++◌, ◌∷◌, [], length, drop, sym, ap, ◌∙◌, subst, inl, inr, arith}
+use Rattle.std.proofs.lemmas.List.{length-append, length-drop}
+use Rattle.laws.specs.Tuples.{Within}
+use Rattle.laws.proofs.Tuples.{within-length, within_at}
+use Rattle.laws.proofs.Words.{length-signed, stride_read}
+use Rattle.laws.proofs.Cells.{Adding, cell_step, cell-all, cell_below}
+use Rattle.dimension.specs.Rows.{listed}
+use Rattle.grid.specs.Layouts.{seen}
+use Rattle.grid.proofs.Layouts.{sound}
+use Rattle.grid.proofs.Walking.{drop_first}
+use Rattle.grid.proofs.layout.Layout.stride_offset.Goals as goal
+
+pub loop-word-preserved : goal.loop-word-preserved
+loop-word-preserved c =
+    let s = c.args.self.now in
+    let ix = c.args.index.now in
+    let ws = listed s.strides in
+    let i = length c.loop-word.yielded in
+    let inv = c.loop-word.invariant in
+    let steps = c.in-Some.ensures.steps in
+    let here = drop_first ix _ _ i c.in-Some.word.now inv.2 steps.0 in
+    let stride = drop_first ws _ _ i c.in-Some.stride.now inv.3 steps.1 in
+    let on : (w : Within ix (listed s.lens)) → Adding (seen s) ix (i + 1) c.stride_offset-at.result = λ w.
+    cell_step (seen s) (sound s) ix i c.loop-word.at (inv.4 w) (within-length ix (listed s.lens) w) here.2 (within_at ix (listed s.lens) i w (omega (arith, here.2, within-length ix (listed s.lens) w)))
+    c.in-Some.word.now c.in-Some.stride.now c.stride_offset-at.result here.1 (stride_read ws i c.in-Some.stride.now stride.2 stride.1) c.stride_offset-at.ensures.law in
+    let long : length (c.loop-word.yielded ++ _ ∷ []) ≡ i + 1 = length-append c.loop-word.yielded _ in (
+      (tt, tt),
+      tt,
+      here.0 ∙ ap (λ n. drop n ix) (sym long),
+      stride.0 ∙ ap (λ n. drop n ws) (sym long),
+      λ w. subst (λ n. Adding (seen s) ix n c.stride_offset-at.result) (sym long) (on w),
+    )
+
+pub returns : goal.returns
+returns c =
+    let s = c.args.self.now in
+    let ws = listed s.strides in
+    let n = length c.loop-word.yielded in
+    let ix = c.args.index.now in
+    let inv = c.loop-word.invariant in
+    let end : (w : Within ix (listed s.lens)) → length ix ≤ length c.loop-word.yielded = λ w.
+    elim c.in-None.ensures.steps [
+      | inl x ↦ omega (arith, x.1.0, ap length inv.2, length-drop n ix)
+      | inr x ↦ omega (arith, x.1.0, ap length inv.3, length-drop n ws, length-signed ws, s.paired, within-length ix (listed s.lens) w)
+    ] in
+    record {
+      here = λ w. cell-all (seen s) ix (length c.loop-word.yielded) c.loop-word.at (end w) (inv.4 w);
+      within = λ w. cell_below (seen s) (sound s) ix c.loop-word.at w (cell-all (seen s) ix (length c.loop-word.yielded) c.loop-word.at (end w) (inv.4 w));
+    }
