@@ -4,11 +4,14 @@ use Rattle.std.specs.List.{list_all, zip}
 use Rattle.laws.specs.Tuples.{is_within}
 
 -- what is left after i elements begins with element i
-pub drop_first : (xs rest tail : List ℕ) (i x : ℕ) → rest ≡ drop i xs → rest ≡ x ∷ tail → (tail ≡ drop (i + 1) xs) × (x ≡ get_or xs i 0) × (i < length xs)
-drop_first [] rest tail zero x left split = let z : ◌≡◌ {A = ℕ} 0 1 = cc in absurd (omega arith)
-drop_first [] rest tail (suc i) x left split = let z : ◌≡◌ {A = ℕ} 0 1 = cc in absurd (omega arith)
-drop_first (y ∷ ys) rest tail zero x left split = (cc, cc, omega arith)
-drop_first (y ∷ ys) rest tail (suc i) x left split = let on = drop_first ys rest tail i x left split in let next : suc i + 1 ≡ suc (i + 1) = omega arith in (on.0 ∙ ap (λ n. drop n (y ∷ ys)) (sym next), on.1, omega (arith, on.2))
+pub drop_first : {A : Type 0} (xs rest tail : List A) (i : ℕ) (x d : A) → rest ≡ drop i xs → rest ≡ x ∷ tail → (tail ≡ drop (i + 1) xs) × (x ≡ get_or xs i d) × (i < length xs)
+drop_first [] rest tail zero x d left split = let z : ◌≡◌ {A = ℕ} 0 1 = cc in absurd (omega arith)
+drop_first [] rest tail (suc i) x d left split = let z : ◌≡◌ {A = ℕ} 0 1 = cc in absurd (omega arith)
+drop_first (y ∷ ys) rest tail zero x d left split = (cc, cc, omega arith)
+drop_first (y ∷ ys) rest tail (suc i) x d left split =
+    let on = drop_first ys rest tail i x d left split in
+    let next : suc i + 1 ≡ suc (i + 1) = omega arith in
+    (on.0 ∙ ap (λ n. drop n (y ∷ ys)) (sym next), on.1, omega (arith, on.2))
 
 -- the test of a tuple, index beside length
 pub within_beside : (ix ls : List ℕ) → length ix ≡ length ls → list_all (λ (p : ℕ × ℕ). ltb p.0 p.1) (zip ix ls) ≡ is_within ix ls

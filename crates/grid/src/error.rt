@@ -84,23 +84,28 @@ pub fn at_call<T, F>(res: Result<T, F>, call: GridCall) -> Result<T, During<F>>
     res.map_err(|fault| During { fault, call })
 }
 
-impl From<During<RowFault>> for GridFault {
-    ghost from_gives = { λ d r. r ≡ record { cause = Rows d.fault; call = d.call } };
+impl From<RowFault> for Cause {
+    ghost from_gives = { λ f r. r ≡ Rows f };
 
-    fn from(d: During<RowFault>) -> GridFault {
-        GridFault {
-            cause: Cause::Rows(d.fault),
-            call: d.call,
-        }
+    fn from(lower: RowFault) -> Cause {
+        Cause::Rows(lower)
     }
 }
 
-impl From<During<SliceFault>> for GridFault {
-    ghost from_gives = { λ d r. r ≡ record { cause = Selection d.fault; call = d.call } };
+impl From<SliceFault> for Cause {
+    ghost from_gives = { λ f r. r ≡ Selection f };
 
-    fn from(d: During<SliceFault>) -> GridFault {
+    fn from(lower: SliceFault) -> Cause {
+        Cause::Selection(lower)
+    }
+}
+
+impl<F: Into<Cause>> From<During<F>> for GridFault {
+    ghost from_gives = { λ d r. F.converts d.fault r.cause × (r.call ≡ d.call) };
+
+    fn from(d: During<F>) -> GridFault {
         GridFault {
-            cause: Cause::Selection(d.fault),
+            cause: d.fault.into(),
             call: d.call,
         }
     }

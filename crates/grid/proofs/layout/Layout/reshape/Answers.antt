@@ -8,7 +8,7 @@ pub returns-in_err-strides : goal.returns-in_err-strides
 returns-in_err-strides g c =
     let p = err_from_is_err_and c.from_residual.result c.from_residual.ensures.1 in
     record {
-      answer = rw (p.1, p.2)
+      answer = rw (p.1, p.2.0, p.2.1)
           (refused c.args.self.now (order_of c.args.order) (g.D.Dimension.words c.args.shape.now) c.reshape_dim.result c.reshape_dim.ensures.answer c.in_err-strides.field-0.0 c.in_err-strides.ensures);
       same = rw p.1 refl;
     }

@@ -18,8 +18,8 @@ loop-word-preserved c =
     let i = length c.loop-word.yielded in
     let inv = c.loop-word.invariant in
     let steps = c.in-Some.ensures.steps in
-    let here = drop_first ix _ _ i c.in-Some.word.now inv.2 steps.0 in
-    let stride = drop_first ws _ _ i c.in-Some.stride.now inv.3 steps.1 in
+    let here = drop_first ix _ _ i c.in-Some.word.now 0 inv.2 steps.0 in
+    let stride = drop_first ws _ _ i c.in-Some.stride.now 0 inv.3 steps.1 in
     let on : (w : Within ix (listed s.lens)) → Adding (seen s) ix (i + 1) c.stride_offset-at.result = λ w.
     cell_step (seen s) (sound s) ix i c.loop-word.at (inv.4 w) (within-length ix (listed s.lens) w) here.2 (within_at ix (listed s.lens) i w (omega (arith, here.2, within-length ix (listed s.lens) w)))
     c.in-Some.word.now c.in-Some.stride.now c.stride_offset-at.result here.1 (stride_read ws i c.in-Some.stride.now stride.2 stride.1) c.stride_offset-at.ensures.law in
