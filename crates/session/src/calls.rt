@@ -45,17 +45,13 @@ pub(crate) fn changed(layout: &mut Layout, change: &Change) -> Verdict {
 /// The selection that a rule makes.
 pub(crate) fn ruled(ruling: Ruling) -> Result<Answer, Refusal> {
     let range = ruling.range;
-    let rule = AxisRule::new(ruling.rank, ruling.axis, range.start, range.end, range.step).map_err(
-        |fault| Refusal::Fault(Fault::Rule(fault)),
-    )?;
-    Ok(Answer::Ruled(rule))
+    let rule = AxisRule::new(ruling.rank, ruling.axis, range.start, range.end, range.step);
+    Ok(Answer::Ruled(rule.map_err(Fault::Rule)?))
 }
 
 /// The counts of a selection that is stored.
 pub(crate) fn stored(storing: &Storing) -> Result<Answer, Refusal> {
     let elems = storing.selection.elems.as_slice();
-    let info = SliceInfo::new(elems, storing.in_dim, storing.out_dim).map_err(
-        |fault| Refusal::Fault(Fault::Info(fault)),
-    )?;
+    let info = SliceInfo::new(elems, storing.in_dim, storing.out_dim).map_err(Fault::Info)?;
     Ok(Answer::Counted(info.in_ndim(), info.out_ndim()))
 }

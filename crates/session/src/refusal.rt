@@ -66,6 +66,12 @@ pub(crate) enum Refusal {
     Lacking(What),
 }
 
+impl From<Fault> for Refusal {
+    fn from(fault: Fault) -> Refusal {
+        Refusal::Fault(fault)
+    }
+}
+
 impl From<GridFault> for Refusal {
     fn from(fault: GridFault) -> Refusal {
         Refusal::Fault(Fault::Grid(fault))

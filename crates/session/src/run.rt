@@ -80,8 +80,7 @@ impl Run {
 /// A line without the bytes that end it.
 fn without_end(line: &[u8]) -> &[u8] {
     match line {
-        [text @ .., b'\r', b'\n'] => text,
-        [text @ .., b'\n'] => text,
+        [text @ .., b'\r', b'\n'] | [text @ .., b'\n'] => text,
         _ => line,
     }
 }
