@@ -1,5 +1,5 @@
 /// What a person is paid under a pay code.
-#[derive(Clone, Copy, PartialEq, Eq, Debug)]
+#[derive(Clone, Copy, PartialEq, Eq, Default, Debug)]
 pub struct PayLine {
     pub person: u32,
     pub code: u8,

@@ -1,7 +1,9 @@
+ghost use Rattle.std.specs.Iterator.{IsFinite};
+
+use crate::cell::Cell;
 use crate::lent::Lent;
 use crate::report::Report;
-use cells::PayLine;
-use dimension::{Dimension, IxDyn, word_at};
+use dimension::{Dimension, word_at};
 use grid::Layout;
 use script::{Value, write_selection};
 use selection::AxisRule;
@@ -32,16 +34,11 @@ impl fmt::Display for Answer {
             Answer::Found(None) => f.write_str("none"),
             Answer::Ruled(rule) => write_rule(f, rule),
             Answer::Counted(taken, left) => write!(f, "ok {taken} {left}"),
-            Answer::Cells(Lent::Cents(cells)) => write_cents(f, cells.as_slice()),
-            Answer::Cells(Lent::Lines(cells)) => write_lines(f, cells.as_slice()),
+            Answer::Cells(Lent::Cents(cells)) => write_cells(f, cells.as_slice()),
+            Answer::Cells(Lent::Lines(cells)) => write_cells(f, cells.as_slice()),
             Answer::Report(report) => write!(f, "{report}"),
         }
     }
-}
-
-/// What stands before the word at a place of a row.
-fn mark(place: usize) -> &'static str {
-    if place == 0 { "" } else { "," }
 }
 
 /// A verdict, and the grid with its first cell, its lengths and its strides.
@@ -51,10 +48,15 @@ fn write_layout<W: fmt::Write>(
     layout: &Layout,
 ) -> fmt::Result {
     let start = layout.start();
+    let lens = layout.lens();
+    let strides = layout.strides();
     write!(f, "{verdict} start {start} lens ")?;
-    write_words(f, &layout.lens())?;
+    write_list(f, (0..lens.ndim()).map(|axis| word_at(&lens, axis)))?;
     f.write_str(" strides ")?;
-    write_strides(f, &layout.strides())
+    write_list(
+        f,
+        (0..strides.ndim()).map(|axis| word_at(&strides, axis).cast_signed()),
+    )
 }
 
 /// The selection that a rule makes.
@@ -63,45 +65,25 @@ fn write_rule<W: fmt::Write>(f: &mut fmt::Formatter<W>, rule: &AxisRule) -> fmt:
     write_selection(f, rule)
 }
 
-/// A row of words.
-fn write_words<W: fmt::Write>(f: &mut fmt::Formatter<W>, row: &IxDyn) -> fmt::Result {
-    f.write_str("[")?;
-    for place in 0..row.ndim() {
-        let mark = mark(place);
-        let word = word_at(row, place);
-        write!(f, "{mark}{word}")?;
-    }
-    f.write_str("]")
+/// Every cell.
+fn write_cells<W: fmt::Write, T: Cell>(f: &mut fmt::Formatter<W>, cells: &[T]) -> fmt::Result {
+    write_list(f, cells.iter().map(|cell| cell.value()))
 }
 
-/// A row of strides, whose words are two's complement.
-fn write_strides<W: fmt::Write>(f: &mut fmt::Formatter<W>, row: &IxDyn) -> fmt::Result {
+/// A list in brackets, with commas and no blanks.
+fn write_list<W: fmt::Write, T: fmt::Display + Drop, I: Iterator<Item = T> + Drop>(
+    f: &mut fmt::Formatter<W>,
+    items: I,
+) -> fmt::Result
+    requires can { I.can_next items }
+    requires ends { IsFinite (I.remaining items) }
+{
     f.write_str("[")?;
-    for place in 0..row.ndim() {
-        let mark = mark(place);
-        let stride = word_at(row, place).cast_signed();
-        write!(f, "{mark}{stride}")?;
-    }
-    f.write_str("]")
-}
-
-/// Cells of cents.
-fn write_cents<W: fmt::Write>(f: &mut fmt::Formatter<W>, cells: &[i64]) -> fmt::Result {
-    f.write_str("[")?;
-    for (place, cents) in cells.iter().enumerate() {
-        let mark = mark(place);
-        write!(f, "{mark}{cents}")?;
-    }
-    f.write_str("]")
-}
-
-/// Cells of pay lines.
-fn write_lines<W: fmt::Write>(f: &mut fmt::Formatter<W>, cells: &[PayLine]) -> fmt::Result {
-    f.write_str("[")?;
-    for (place, line) in cells.iter().enumerate() {
-        let mark = mark(place);
-        let value = Value::Line(*line);
-        write!(f, "{mark}{value}")?;
+    let mut first = true;
+    for item in items {
+        let mark = if first { "" } else { "," };
+        write!(f, "{mark}{item}")?;
+        first = false;
     }
     f.write_str("]")
 }

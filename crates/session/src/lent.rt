@@ -1,10 +1,11 @@
 ghost use Rattle.std.specs.Prelude.{◌≡◌, IfOk, OnErr};
 ghost use Rattle.session.specs.Sessions.{SameCells, Zeros};
 
+use crate::cell::Cell;
 use crate::refusal::Refusal;
 use cells::{PayLine, Reader, fill, fill_selection};
 use grid::{GridFault, Layout};
-use script::{Expected, Filling, Kind, Selection, Value, What};
+use script::{Expected, Filling, Kind, Value};
 use std::alloc::{AllocError, Global};
 
 /// The lent cells, all of one kind.
@@ -15,48 +16,32 @@ pub(crate) enum Lent {
 }
 
 /// The value at a tuple, of cells of any type.
-fn read_cell<T: Copy>(
+fn read_cell<T: Cell>(
     cells: &[T],
     layout: &Layout,
     index: &[usize],
-) -> Result<Option<T>, GridFault> {
+) -> Result<Option<Value>, GridFault> {
     let mut reader = Reader::blank();
     reader.lend(cells, layout)?;
-    Ok(reader.get(index))
+    Ok(reader.get(index).map(|cell| cell.value()))
 }
 
-/// Fills the grid's cells, of cells of any type.
-fn fill_whole<T: Copy>(cells: &mut Vec<T>, layout: &Layout, value: T) -> Result<(), GridFault>
-    ensures { OnErr result (cells.new.items ≡ cells.old.items) }
-{
-    fill(layout, cells.as_mut_slice(), value)
-}
-
-/// Fills the cells of a selection of the grid, of cells of any type.
-fn fill_selected<T: Copy>(
+/// Fills the cells of the grid, or of a selection of it where there is one, of cells of any type.
+fn fill_cells<T: Cell>(
     cells: &mut Vec<T>,
     layout: &Layout,
-    selection: &Selection,
-    value: T,
-) -> Result<(), GridFault>
+    filling: &Filling,
+) -> Result<(), Refusal>
     ensures { OnErr result (cells.new.items ≡ cells.old.items) }
 {
-    fill_selection(layout, &selection.lent(), cells.as_mut_slice(), value)
-}
-
-/// Fills the cells of the grid, or of a selection of it where there is one.
-fn fill_cells<T: Copy>(
-    cells: &mut Vec<T>,
-    layout: &Layout,
-    selection: &Option<Selection>,
-    value: T,
-) -> Result<(), GridFault>
-    ensures { OnErr result (cells.new.items ≡ cells.old.items) }
-{
-    match selection {
-        Some(selection) => fill_selected(cells, layout, selection, value),
-        None => fill_whole(cells, layout, value),
+    let column = filling.value.column;
+    let what = T::WANTED;
+    let value = T::of(filling.value.value).ok_or(Expected { column, what })?;
+    match &filling.selection {
+        Some(selection) => fill_selection(layout, &selection.lent(), cells.as_mut_slice(), value)?,
+        None => fill(layout, cells.as_mut_slice(), value)?,
     }
+    Ok(())
 }
 
 impl Lent {
@@ -66,15 +51,7 @@ impl Lent {
     {
         match kind {
             Kind::Cents => Ok(Lent::Cents(Vec::from_elem(heap, 0, count)?)),
-            Kind::Lines => Ok(Lent::Lines(Vec::from_elem(
-                heap,
-                PayLine {
-                    person: 0,
-                    code: 0,
-                    cents: 0,
-                },
-                count,
-            )?)),
+            Kind::Lines => Ok(Lent::Lines(Vec::from_elem(heap, PayLine::default(), count)?)),
         }
     }
 
@@ -92,25 +69,10 @@ impl Lent {
     pub(crate) fn fill(&mut self, layout: &Layout, filling: &Filling) -> Result<(), Refusal>
         ensures { OnErr result (SameCells self.old self.new) }
     {
-        let column = filling.value.column;
-        let selection = &filling.selection;
         match self {
-            Lent::Cents(cells) => match filling.value.value {
-                Value::Cents(cents) => fill_cells(cells, layout, selection, cents)?,
-                Value::Line(_) => return Err(Refusal::Wrong(Expected {
-                    column,
-                    what: What::CentsLent,
-                })),
-            },
-            Lent::Lines(cells) => match filling.value.value {
-                Value::Line(line) => fill_cells(cells, layout, selection, line)?,
-                Value::Cents(_) => return Err(Refusal::Wrong(Expected {
-                    column,
-                    what: What::LinesLent,
-                })),
-            },
+            Lent::Cents(cells) => fill_cells(cells, layout, filling),
+            Lent::Lines(cells) => fill_cells(cells, layout, filling),
         }
-        Ok(())
     }
 
     /// The value at a tuple of the grid, or none where the tuple is not within its lengths.
@@ -120,14 +82,8 @@ impl Lent {
         index: &[usize],
     ) -> Result<Option<Value>, GridFault> {
         match self {
-            Lent::Cents(cells) => match read_cell(cells.as_slice(), layout, index)? {
-                Some(cents) => Ok(Some(Value::Cents(cents))),
-                None => Ok(None),
-            },
-            Lent::Lines(cells) => match read_cell(cells.as_slice(), layout, index)? {
-                Some(line) => Ok(Some(Value::Line(line))),
-                None => Ok(None),
-            },
+            Lent::Cents(cells) => read_cell(cells.as_slice(), layout, index),
+            Lent::Lines(cells) => read_cell(cells.as_slice(), layout, index),
         }
     }
 }

@@ -3,6 +3,7 @@
 
 mod answer;
 mod calls;
+mod cell;
 mod lent;
 mod posting;
 mod refusal;

@@ -5,20 +5,16 @@ use std::fmt;
 
 /// How many cells a grid has; a layout's lengths are never too long to count.
 pub(crate) fn grid_size(layout: &Layout) -> usize {
-    match size_of_shape_checked(&layout.lens()) {
-        Ok(size) => size,
-        Err(_) => 0,
-    }
+    size_of_shape_checked(&layout.lens()).unwrap_or(0)
 }
 
 /// How many cells a filling writes: all of the grid, or those of its slice by the selection.
 fn filled_size(layout: &Layout, selection: &Option<Selection>) -> usize {
     match selection {
         None => grid_size(layout),
-        Some(selection) => match layout.slice_move(&selection.lent()) {
-            Ok(slice) => grid_size(&slice),
-            Err(_) => 0,
-        },
+        Some(selection) => layout
+            .slice_move(&selection.lent())
+            .map_or(0, |slice| grid_size(&slice)),
     }
 }
 

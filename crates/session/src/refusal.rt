@@ -1,30 +1,33 @@
 use dimension::Layer;
 use grid::{GridCall, GridFault};
-use script::Expected;
+use script::{Expected, What};
 use selection::SliceFault;
+use std::alloc::AllocError;
 use std::fmt;
 
-/// The call that gave a fault: one on the grid, or the making of a selection.
+/// A fault with what gave it: a call on the grid, or the making of a selection.
 #[derive(Clone, Copy)]
-pub(crate) enum Called {
-    Grid(GridCall),
-    Rule,
-    Info,
+pub(crate) enum Fault {
+    Grid(GridFault),
+    Rule(SliceFault),
+    Info(SliceFault),
 }
 
-impl Called {
-    /// The call's name in an answer.
-    fn name(self) -> &'static str {
+impl Fault {
+    /// The name in an answer of the call that gave the fault.
+    fn call(&self) -> &'static str {
         match self {
-            Called::Grid(GridCall::Open) => "open",
-            Called::Grid(GridCall::Fill) => "fill",
-            Called::Grid(GridCall::Read) => "read",
-            Called::Grid(GridCall::Slice) => "slice",
-            Called::Grid(GridCall::Collapse) => "collapse",
-            Called::Grid(GridCall::Merge) => "merge",
-            Called::Grid(GridCall::Reshape) => "reshape",
-            Called::Rule => "rule",
-            Called::Info => "info",
+            Fault::Grid(fault) => match fault.call {
+                GridCall::Open => "open",
+                GridCall::Fill => "fill",
+                GridCall::Read => "read",
+                GridCall::Slice => "slice",
+                GridCall::Collapse => "collapse",
+                GridCall::Merge => "merge",
+                GridCall::Reshape => "reshape",
+            },
+            Fault::Rule(_) => "rule",
+            Fault::Info(_) => "info",
         }
     }
 }
@@ -38,59 +41,57 @@ fn layer_name(layer: Layer) -> &'static str {
     }
 }
 
-/// A fault as an answer has it: its number, layer, place and call.
-#[derive(Clone, Copy)]
-pub(crate) struct FaultText {
-    number: u8,
-    layer: Layer,
-    place: Option<usize>,
-    call: Called,
-}
-
-impl fmt::Display for FaultText {
+impl fmt::Display for Fault {
     fn fmt<W: fmt::Write>(&self, f: &mut fmt::Formatter<W>) -> fmt::Result {
-        let number = self.number;
-        let layer = layer_name(self.layer);
-        let call = self.call.name();
-        match self.place {
+        let (number, layer, place) = match self {
+            Fault::Grid(fault) => (fault.number(), fault.layer(), fault.place()),
+            Fault::Rule(fault) | Fault::Info(fault) => {
+                (fault.number(), Layer::Selection, fault.place())
+            }
+        };
+        let layer = layer_name(layer);
+        let call = self.call();
+        match place {
             Some(place) => write!(f, "fault {number} {layer} {place} {call} -"),
             None => write!(f, "fault {number} {layer} - {call} -"),
         }
     }
 }
 
-/// Why a command is not performed: the call is refused, or the line asks for what is not there.
+/// Why a command is not performed: a call is refused, a part of the line is wrong, or the command lacks something.
 #[derive(Clone, Copy)]
 pub(crate) enum Refusal {
-    Fault(FaultText),
+    Fault(Fault),
     Wrong(Expected),
+    Lacking(What),
 }
 
-impl Refusal {
-    /// A selection that is not made.
-    pub(crate) fn of_selection(fault: SliceFault, call: Called) -> Refusal {
-        Refusal::Fault(FaultText {
-            number: fault.number(),
-            layer: Layer::Selection,
-            place: fault.place(),
-            call,
-        })
+impl From<Fault> for Refusal {
+    fn from(fault: Fault) -> Refusal {
+        Refusal::Fault(fault)
     }
 }
 
 impl From<GridFault> for Refusal {
     fn from(fault: GridFault) -> Refusal {
-        Refusal::Fault(FaultText {
-            number: fault.number(),
-            layer: fault.layer(),
-            place: fault.place(),
-            call: Called::Grid(fault.call),
-        })
+        Refusal::Fault(Fault::Grid(fault))
     }
 }
 
 impl From<Expected> for Refusal {
     fn from(expected: Expected) -> Refusal {
         Refusal::Wrong(expected)
+    }
+}
+
+impl From<What> for Refusal {
+    fn from(what: What) -> Refusal {
+        Refusal::Lacking(what)
+    }
+}
+
+impl From<AllocError> for Refusal {
+    fn from(_error: AllocError) -> Refusal {
+        Refusal::Lacking(What::Memory)
     }
 }

@@ -1,65 +1,38 @@
+use crate::cell::Cell;
 use crate::lent::Lent;
 use crate::posting::{Posting, grid_size};
-use cells::PayLine;
 use dimension::{Dimension, word_at};
 use grid::Layout;
-use std::alloc::Global;
+use std::alloc::{AllocError, Global};
 use std::fmt;
-use std::fmt::Write;
 
 /// What all the lent cells come to.
 #[derive(Clone, Copy)]
 struct Totals {
+    kind: &'static str,
     count: usize,
     used: usize,
     cents: i128,
 }
 
 impl Totals {
-    /// Of no cells.
-    fn none() -> Totals {
+    /// Of cells of any type.
+    fn of<T: Cell>(cells: &[T]) -> Totals {
         Totals {
-            count: 0,
-            used: 0,
-            cents: 0,
+            kind: T::KIND,
+            count: cells.len(),
+            used: cells.iter().filter(|cell| **cell != T::default()).count(),
+            cents: cells.iter().fold(
+                0,
+                |sum: i128, cell| sum.saturating_add(i128::from(cell.cents())),
+            ),
         }
-    }
-
-    /// With one cell more.
-    fn with(self, used: bool, cents: i64) -> Totals {
-        Totals {
-            count: self.count.saturating_add(1),
-            used: self.used.saturating_add(usize::from(used)),
-            cents: self.cents.saturating_add(i128::from(cents)),
-        }
-    }
-
-    /// Of cells of cents.
-    fn of_cents(cells: &[i64]) -> Totals {
-        let mut totals = Totals::none();
-        for cents in cells {
-            totals = totals.with(*cents != 0, *cents);
-        }
-        totals
-    }
-
-    /// Of cells of pay lines.
-    fn of_lines(cells: &[PayLine]) -> Totals {
-        let mut totals = Totals::none();
-        for line in cells {
-            totals = totals.with(
-                line.person != 0 || line.code != 0 || line.cents != 0,
-                line.cents,
-            );
-        }
-        totals
     }
 }
 
 /// What a person is told of a session, as it stood when the report was asked for.
 #[derive(Drop)]
 pub(crate) struct Report {
-    kind: &'static str,
     totals: Totals,
     grid: Option<Layout>,
     posted: String,
@@ -72,29 +45,24 @@ impl Report {
         lent: &Lent,
         grid: Option<Layout>,
         posted: &[Posting],
-    ) -> Result<Report, fmt::Error> {
+    ) -> Result<Report, AllocError> {
+        let totals = match lent {
+            Lent::Cents(cells) => Totals::of(cells.as_slice()),
+            Lent::Lines(cells) => Totals::of(cells.as_slice()),
+        };
         let posted = posted_text(heap, posted)?;
-        match lent {
-            Lent::Cents(cells) => Ok(Report {
-                kind: "cents",
-                totals: Totals::of_cents(cells.as_slice()),
-                grid,
-                posted,
-            }),
-            Lent::Lines(cells) => Ok(Report {
-                kind: "lines",
-                totals: Totals::of_lines(cells.as_slice()),
-                grid,
-                posted,
-            }),
-        }
+        Ok(Report {
+            totals,
+            grid,
+            posted,
+        })
     }
 }
 
 impl fmt::Display for Report {
     fn fmt<W: fmt::Write>(&self, f: &mut fmt::Formatter<W>) -> fmt::Result {
         let count = self.totals.count;
-        let kind = self.kind;
+        let kind = self.totals.kind;
         writeln!(f, "lent      {count} cells of {kind}")?;
         match &self.grid {
             Some(layout) => write_grid(f, layout)?,
@@ -126,13 +94,13 @@ fn write_grid<W: fmt::Write>(f: &mut fmt::Formatter<W>, layout: &Layout) -> fmt:
 }
 
 /// What was done to the grid, with a line for each posting, in their order.
-fn posted_text(heap: Global, posted: &[Posting]) -> Result<String, fmt::Error> {
+fn posted_text(heap: Global, posted: &[Posting]) -> Result<String, AllocError> {
     let mut text = String::new(heap);
     if posted.is_empty() {
-        text.write_str("posted    nothing\n")?;
+        text.push_str("posted    nothing\n")?;
         return Ok(text);
     }
-    text.write_str("posted       cells       times  value\n")?;
+    text.push_str("posted       cells       times  value\n")?;
     for posting in posted {
         writeln!(text, "{posting}")?;
     }

@@ -54,10 +54,12 @@ impl Run {
         ensures lines { self.new.line ≡ self.old.line }
         ensures errors { self.old.errors ≤ self.new.errors }
     {
-        match self.session.perform(command) {
+        let Marked { column, value } = command;
+        match self.session.perform(value) {
             Ok(answer) => writeln!(text, "{answer}"),
             Err(Refusal::Fault(fault)) => writeln!(text, "{fault}"),
             Err(Refusal::Wrong(expected)) => self.refuse(expected, text),
+            Err(Refusal::Lacking(what)) => self.refuse(Expected { column, what }, text),
         }
     }
 
@@ -78,8 +80,7 @@ impl Run {
 /// A line without the bytes that end it.
 fn without_end(line: &[u8]) -> &[u8] {
     match line {
-        [text @ .., b'\r', b'\n'] => text,
-        [text @ .., b'\n'] => text,
+        [text @ .., b'\r', b'\n'] | [text @ .., b'\n'] => text,
         _ => line,
     }
 }
@@ -98,12 +99,7 @@ pub fn run_script(rt: &HostRuntime) -> io::Result<u64> {
         if input.read_until(b'\n', &mut line)? == 0 {
             break;
         }
-        if script
-            .step(without_end(line.as_slice()), &mut text)
-            .is_err()
-        {
-            return Err(io::Error::from(io::ErrorKind::OutOfMemory));
-        }
+        script.step(without_end(line.as_slice()), &mut text)?;
         if text.len() >= FULL {
             rt.print(text.as_str())?;
             text.clear();

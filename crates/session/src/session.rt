@@ -47,34 +47,27 @@ impl Session {
     }
 
     /// Performs a command; one that is refused changes nothing.
-    pub(crate) fn perform(&mut self, command: Marked<Command>) -> Result<Answer, Refusal>
-        ensures { MatchResult result (λ told. Performed command.value self.old self.new told) (λ _. Kept self.old self.new) }
+    pub(crate) fn perform(&mut self, command: Command) -> Result<Answer, Refusal>
+        ensures { MatchResult result (λ told. Performed command self.old self.new told) (λ _. Kept self.old self.new) }
     {
-        let column = command.column;
-        match command.value {
+        match command {
             Command::Lend(count, kind) => self.lend(count, kind),
             Command::Open(opening) => self.open(opening),
-            Command::Change(change) => self.change(column, change),
-            Command::Fill(filling) => self.fill(column, filling),
-            Command::Read(index) => self.read(column, index),
+            Command::Change(change) => self.change(change),
+            Command::Fill(filling) => self.fill(filling),
+            Command::Read(index) => self.read(index),
             Command::Rule(ruling) => ruled(ruling),
             Command::Info(storing) => stored(&storing),
-            Command::Cells => self.cells(column),
-            Command::Report => self.report(column),
+            Command::Cells => self.cells(),
+            Command::Report => self.report(),
         }
     }
 
     /// The open grid.
-    fn grid(&self, column: usize) -> Result<Layout, Expected>
+    fn grid(&self) -> Result<Layout, What>
         ensures { IfOk result (λ layout. self.now.grid ≡ Some layout) }
     {
-        match self.grid {
-            Some(layout) => Ok(layout),
-            None => Err(Expected {
-                column,
-                what: What::Grid,
-            }),
-        }
+        self.grid.ok_or(What::Grid)
     }
 
     /// Lends new cells in place of the old ones.
@@ -82,17 +75,10 @@ impl Session {
         ensures { MatchResult result (λ told. Relent count.value kind self.old self.new) (λ _. Kept self.old self.new) }
     {
         let column = count.column;
-        match Lent::new(self.heap, count.value, kind) {
-            Ok(lent) => {
-                self.lent = lent;
-                self.posted.clear();
-                Ok(Answer::Done)
-            }
-            Err(_) => Err(Refusal::Wrong(Expected {
-                column,
-                what: What::CellMemory(count.value),
-            })),
-        }
+        let what = What::CellMemory(count.value);
+        self.lent = Lent::new(self.heap, count.value, kind).map_err(|_| Expected { column, what })?;
+        self.posted.clear();
+        Ok(Answer::Done)
     }
 
     /// Opens a grid in place of the old one.
@@ -106,17 +92,12 @@ impl Session {
     }
 
     /// Changes the open grid, and notes the change.
-    fn change(&mut self, column: usize, change: Change) -> Result<Answer, Refusal>
+    fn change(&mut self, change: Change) -> Result<Answer, Refusal>
         ensures { MatchResult result (λ told. Regridded self.old self.new told) (λ _. Kept self.old self.new) }
     {
-        let before = self.grid(column)?;
+        let before = self.grid()?;
         // The note's place is had first, so that a change is never made and not noted.
-        if self.posted.reserve(1).is_err() {
-            return Err(Refusal::Wrong(Expected {
-                column,
-                what: What::Memory,
-            }));
-        }
+        self.posted.reserve(1)?;
         let mut layout = before;
         match changed(&mut layout, &change) {
             Verdict::Refused(fault) => Err(Refusal::from(fault)),
@@ -131,47 +112,31 @@ impl Session {
     }
 
     /// Fills the open grid or a selection of it, and notes what was posted.
-    fn fill(&mut self, column: usize, filling: Filling) -> Result<Answer, Refusal>
+    fn fill(&mut self, filling: Filling) -> Result<Answer, Refusal>
         ensures { MatchResult result (λ told. self.new.grid ≡ self.old.grid) (λ _. Kept self.old self.new) }
     {
-        let layout = self.grid(column)?;
+        let layout = self.grid()?;
         // The note's place is had first, so that a filling is never done and not noted.
-        if self.posted.reserve(1).is_err() {
-            return Err(Refusal::Wrong(Expected {
-                column,
-                what: What::Memory,
-            }));
-        }
+        self.posted.reserve(1)?;
         self.lent.fill(&layout, &filling)?;
         Posting::note(&mut self.posted, filling, &layout);
         Ok(Answer::Done)
     }
 
     /// Reads one cell of the open grid.
-    fn read(&self, column: usize, index: Vec<usize>) -> Result<Answer, Refusal> {
-        let layout = self.grid(column)?;
+    fn read(&self, index: Vec<usize>) -> Result<Answer, Refusal> {
+        let layout = self.grid()?;
         Ok(Answer::Found(self.lent.read(&layout, index.as_slice())?))
     }
 
     /// Every lent cell.
-    fn cells(&self, column: usize) -> Result<Answer, Refusal> {
-        match self.lent.copied(self.heap) {
-            Ok(lent) => Ok(Answer::Cells(lent)),
-            Err(_) => Err(Refusal::Wrong(Expected {
-                column,
-                what: What::Memory,
-            })),
-        }
+    fn cells(&self) -> Result<Answer, Refusal> {
+        Ok(Answer::Cells(self.lent.copied(self.heap)?))
     }
 
     /// What stands where, and what was posted.
-    fn report(&self, column: usize) -> Result<Answer, Refusal> {
-        match Report::new(self.heap, &self.lent, self.grid, self.posted.as_slice()) {
-            Ok(report) => Ok(Answer::Report(report)),
-            Err(_) => Err(Refusal::Wrong(Expected {
-                column,
-                what: What::Memory,
-            })),
-        }
+    fn report(&self) -> Result<Answer, Refusal> {
+        let report = Report::new(self.heap, &self.lent, self.grid, self.posted.as_slice())?;
+        Ok(Answer::Report(report))
     }
 }
