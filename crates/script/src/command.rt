@@ -1,4 +1,5 @@
-ghost use Rattle.std.specs.Prelude.{◌≡◌, T};
+ghost use Rattle.std.specs.Prelude.{◌≡◌};
+ghost use Rattle.script.specs.declared.command.Value.TheVariants.{Cents, Line};
 
 use crate::selected::Selection;
 use cells::PayLine;
@@ -12,32 +13,32 @@ pub struct Marked<T> {
 }
 
 /// What every lent cell holds.
-#[derive(Clone, Copy)]
+#[derive(Clone, Copy, Debug, PartialEq, Eq)]
 pub enum Kind {
     Cents,
     Lines,
 }
 
 /// One cell's value.
-#[derive(Clone, Copy)]
+#[derive(Clone, Copy, Debug, PartialEq, Eq)]
 pub enum Value {
     Cents(i64),
     Line(PayLine),
 }
 
-impl Value {
-    /// Whether two values are the same.
-    pub fn same(&self, other: &Value) -> bool
-        ensures sound { T result → self.now ≡ other.now }
-        ensures complete { self.now ≡ other.now → T result }
-    {
-        match (*self, *other) {
-            (Value::Cents(mine), Value::Cents(theirs)) => mine == theirs,
-            (Value::Line(mine), Value::Line(theirs)) => mine.person == theirs.person
-                && mine.code == theirs.code
-                && mine.cents == theirs.cents,
-            _ => false,
-        }
+impl From<i64> for Value {
+    ghost from_gives = { λ x value. value ≡ Cents x };
+
+    fn from(cents: i64) -> Value {
+        Value::Cents(cents)
+    }
+}
+
+impl From<PayLine> for Value {
+    ghost from_gives = { λ x value. value ≡ Line x };
+
+    fn from(line: PayLine) -> Value {
+        Value::Line(line)
     }
 }
 
@@ -99,7 +100,7 @@ pub struct Filling {
 }
 
 /// A range of an axis: from where, up to where if that is said, and in which steps.
-#[derive(Clone, Copy)]
+#[derive(Clone, Copy, Debug, PartialEq, Eq)]
 pub struct AxisRange {
     pub start: isize,
     pub end: Option<isize>,
@@ -107,7 +108,7 @@ pub struct AxisRange {
 }
 
 /// A range on one axis of so many, with all others whole.
-#[derive(Clone, Copy)]
+#[derive(Clone, Copy, Debug, PartialEq, Eq)]
 pub struct Ruling {
     pub rank: usize,
     pub axis: usize,

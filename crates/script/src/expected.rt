@@ -1,7 +1,7 @@
 use std::fmt;
 
 /// What a number in a line stands for.
-#[derive(Clone, Copy)]
+#[derive(Clone, Copy, Debug, PartialEq, Eq)]
 pub enum Noun {
     Cells,
     Size,
@@ -56,7 +56,7 @@ impl Noun {
 }
 
 /// What a line lacks.
-#[derive(Clone, Copy)]
+#[derive(Clone, Copy, Debug, PartialEq, Eq)]
 pub enum What {
     Ascii,
     Command,
@@ -121,7 +121,7 @@ impl fmt::Display for What {
 }
 
 /// Why a line is not performed: what it lacks, and at which column.
-#[derive(Clone, Copy)]
+#[derive(Clone, Copy, Debug, PartialEq, Eq)]
 pub struct Expected {
     pub column: usize,
     pub what: What,
