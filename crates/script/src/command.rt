@@ -1,6 +1,7 @@
 ghost use Rattle.std.specs.Prelude.{◌≡◌};
 ghost use Rattle.script.specs.declared.command.Value.TheVariants.{Cents, Line};
 
+use crate::expected::{Expected, What};
 use crate::selected::Selection;
 use cells::PayLine;
 use std::fmt;
@@ -10,6 +11,19 @@ use std::fmt;
 pub struct Marked<T> {
     pub column: usize,
     pub value: T,
+}
+
+impl<T> Marked<T> {
+    /// What is wrong with this part.
+    pub(crate) fn expected(&self, what: What) -> Expected
+        ensures column { result.column ≡ self.now.column }
+        ensures lacks { result.what ≡ what }
+    {
+        Expected {
+            column: self.column,
+            what,
+        }
+    }
 }
 
 /// What every lent cell holds.
