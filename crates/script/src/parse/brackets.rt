@@ -17,9 +17,7 @@ pub(super) fn brackets<T: Drop, F: Fn(&mut Cursor<'_>) -> Result<T, Expected>>(
 {
     let mut entries = Vec::new(cursor.heap);
     cursor.skip_blanks();
-    if !cursor.take(b'[') {
-        return Err(cursor.expected(missing));
-    }
+    cursor.demand(b'[', missing)?;
     cursor.skip_blanks();
     if cursor.take(b']') {
         return Ok(entries);

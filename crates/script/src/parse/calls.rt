@@ -6,6 +6,7 @@ use super::values::{number, value};
 use crate::command::{Change, Command, Filling, Ruling, Storing};
 use crate::expected::{Expected, Noun, What};
 use crate::scan::Cursor;
+use crate::scan::numbers::natural;
 
 /// The selection to slice by.
 pub(super) fn slice(cursor: &mut Cursor<'_>) -> Result<Command, Expected>
@@ -78,5 +79,5 @@ fn count(cursor: &mut Cursor<'_>) -> Result<Option<usize>, Expected>
     if word.value == b"_".as_slice() {
         return Ok(None);
     }
-    word.natural_or(What::Count, Noun::Count).map(Some)
+    word.read_or(natural, What::Count, Noun::Count).map(Some)
 }

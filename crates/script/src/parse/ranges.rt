@@ -4,6 +4,7 @@ ghost use Rattle.script.specs.Cursors.{Column, Step, bytes};
 use crate::command::{AxisRange, Marked};
 use crate::expected::{Expected, Noun, What};
 use crate::scan::Cursor;
+use crate::scan::numbers::integer;
 
 /// A piece of a range as a number, or none where it is empty.
 fn place(piece: Marked<&[u8]>, noun: Noun) -> Result<Option<isize>, Expected>
@@ -12,7 +13,7 @@ fn place(piece: Marked<&[u8]>, noun: Noun) -> Result<Option<isize>, Expected>
     if piece.value.is_empty() {
         return Ok(None);
     }
-    Ok(Some(piece.integer(noun)? as isize))
+    Ok(Some(piece.read(integer, noun)? as isize))
 }
 
 /// The two dots of a range.
@@ -36,7 +37,7 @@ fn step(cursor: &mut Cursor<'_>) -> Result<isize, Expected>
     if !cursor.take(b';') {
         return Ok(1);
     }
-    Ok(cursor.next_piece().integer(Noun::Step)? as isize)
+    Ok(cursor.next_piece().read(integer, Noun::Step)? as isize)
 }
 
 /// A range of which the start is read; its end and its step may be left out.

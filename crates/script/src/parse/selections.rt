@@ -6,6 +6,7 @@ use super::ranges::range_from;
 use crate::command::{AxisRange, Marked};
 use crate::expected::{Expected, Noun, What};
 use crate::scan::Cursor;
+use crate::scan::numbers::integer;
 use crate::selected::Selection;
 use selection::SliceInfoElem;
 
@@ -37,6 +38,6 @@ fn lone(word: Marked<&[u8]>) -> Result<SliceInfoElem, Expected>
     if word.value == b"NewAxis".as_slice() {
         return Ok(SliceInfoElem::NewAxis);
     }
-    let index = word.integer_or(What::Element, Noun::Place)?;
+    let index = word.read_or(integer, What::Element, Noun::Place)?;
     Ok(SliceInfoElem::Index(index as isize))
 }

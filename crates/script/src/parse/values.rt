@@ -4,7 +4,7 @@ ghost use Rattle.script.specs.Cursors.{Step};
 use crate::command::{Marked, Value};
 use crate::expected::{Expected, Noun, What};
 use crate::scan::Cursor;
-use crate::scan::numbers::{Unread, Unsigned, integer, natural};
+use crate::scan::numbers::{Unread, integer, natural};
 use cells::PayLine;
 
 impl Unread {
@@ -21,34 +21,30 @@ impl Unread {
 }
 
 impl<'a> Marked<&'a [u8]> {
-    /// The word as a number from 0 up, where something else might stand in its place.
-    pub(super) fn natural_or<T: Unsigned>(&self, missing: What, noun: Noun) -> Result<T, Expected>
+    /// The word as a number, by a way to read it, where something else might stand in its place.
+    pub(super) fn read_or<T, F: Fn(&[u8]) -> Result<T, Unread>>(
+        &self,
+        read: F,
+        missing: What,
+        noun: Noun,
+    ) -> Result<T, Expected>
+        requires { F.IsAlwaysCallable read }
         ensures { IfErr result (λ e. e.column ≡ self.now.column) }
     {
         let column = self.column;
-        natural(self.value).map_err(|unread| unread.at(column, missing, noun))
+        read(self.value).map_err(|unread| unread.at(column, missing, noun))
     }
 
-    /// The word as a number from 0 up.
-    pub(super) fn natural<T: Unsigned>(&self, noun: Noun) -> Result<T, Expected>
+    /// The word as a number, by a way to read it.
+    pub(super) fn read<T, F: Fn(&[u8]) -> Result<T, Unread>>(
+        &self,
+        read: F,
+        noun: Noun,
+    ) -> Result<T, Expected>
+        requires { F.IsAlwaysCallable read }
         ensures { IfErr result (λ e. e.column ≡ self.now.column) }
     {
-        self.natural_or(What::Number(noun), noun)
-    }
-
-    /// The word as a number with a sign, where something else might stand in its place.
-    pub(super) fn integer_or(&self, missing: What, noun: Noun) -> Result<i64, Expected>
-        ensures { IfErr result (λ e. e.column ≡ self.now.column) }
-    {
-        let column = self.column;
-        integer(self.value).map_err(|unread| unread.at(column, missing, noun))
-    }
-
-    /// The word as a number with a sign.
-    pub(super) fn integer(&self, noun: Noun) -> Result<i64, Expected>
-        ensures { IfErr result (λ e. e.column ≡ self.now.column) }
-    {
-        self.integer_or(What::Number(noun), noun)
+        self.read_or(read, What::Number(noun), noun)
     }
 }
 
@@ -58,7 +54,7 @@ pub(super) fn number(cursor: &mut Cursor<'_>, noun: Noun) -> Result<Marked<usize
 {
     let word = cursor.next_word();
     let column = word.column;
-    let value = word.natural(noun)?;
+    let value = word.read(natural, noun)?;
     Ok(Marked { column, value })
 }
 
@@ -67,7 +63,7 @@ pub(super) fn stride(cursor: &mut Cursor<'_>) -> Result<usize, Expected>
     ensures { Step cursor.old result cursor.new }
 {
     let word = cursor.next_word();
-    Ok(word.integer(Noun::Stride)?.cast_unsigned() as usize)
+    Ok(word.read(integer, Noun::Stride)?.cast_unsigned() as usize)
 }
 
 /// A cell's value: an amount, or a pay line, which has slashes.
@@ -77,10 +73,10 @@ pub(super) fn value(cursor: &mut Cursor<'_>) -> Result<Marked<Value>, Expected>
     let first = cursor.next_word();
     let column = first.column;
     if !cursor.take(b'/') {
-        let value = Value::from(first.integer_or(What::Value, Noun::Amount)?);
+        let value = Value::from(first.read_or(integer, What::Value, Noun::Amount)?);
         return Ok(Marked { column, value });
     }
-    let person = first.natural(Noun::Person)?;
+    let person = first.read(natural, Noun::Person)?;
     let value = Value::from(pay_line(person, cursor)?);
     Ok(Marked { column, value })
 }
@@ -89,11 +85,9 @@ pub(super) fn value(cursor: &mut Cursor<'_>) -> Result<Marked<Value>, Expected>
 fn pay_line(person: u32, cursor: &mut Cursor<'_>) -> Result<PayLine, Expected>
     ensures { Step cursor.old result cursor.new }
 {
-    let code = cursor.word().natural(Noun::Code)?;
-    if !cursor.take(b'/') {
-        return Err(cursor.expected(What::Slash));
-    }
-    let cents = cursor.word().integer(Noun::Amount)?;
+    let code = cursor.word().read(natural, Noun::Code)?;
+    cursor.demand(b'/', What::Slash)?;
+    let cents = cursor.word().read(integer, Noun::Amount)?;
     Ok(PayLine {
         person,
         code,

@@ -1,5 +1,5 @@
 ghost use Rattle.std.specs.Prelude.{◌≡◌, ◌+◌, ◌-◌, ◌<◌, ◌≤◌, true, false, not, T, length, take, drop, slice_index, if◌then◌else◌};
-ghost use Rattle.script.specs.Cursors.{Column, Front, Onward, Until, blank, bytes, edge, ending};
+ghost use Rattle.script.specs.Cursors.{Column, Front, Onward, Part, Step, Until, blank, bytes, edge, ending};
 
 use super::Cursor;
 use crate::command::Marked;
@@ -95,11 +95,21 @@ impl<'a> Cursor<'a> {
         found
     }
 
+    /// Steps over the next byte, which has to be this one.
+    pub(crate) fn demand(&mut self, byte: u8, missing: What) -> Result<(), Expected>
+        ensures { Step self.old result self.new }
+    {
+        if self.take(byte) {
+            Ok(())
+        } else {
+            Err(self.expected(missing))
+        }
+    }
+
     /// Steps on to the next byte at which to stop, or to the end, and gives what lies between.
     fn until<F: Fn(u8) -> bool>(&mut self, stop: F) -> Marked<&'a [u8]>
         requires { F.IsAlwaysCallable stop }
-        ensures onward { Onward self.old self.new }
-        ensures place { Column (length (bytes self.old)) result.column }
+        ensures part { Part self.old result self.new }
         ensures text { result.value.now ≡ take (self.new.at - self.old.at) (drop self.old.at (bytes self.old)) }
         ensures front { Until (F.post stop) (drop self.old.at (bytes self.old)) (self.new.at - self.old.at) }
     {
@@ -123,8 +133,7 @@ impl<'a> Cursor<'a> {
 
     /// The word that begins here, which is empty before a blank or a mark.
     pub(crate) fn word(&mut self) -> Marked<&'a [u8]>
-        ensures onward { Onward self.old self.new }
-        ensures place { Column (length (bytes self.old)) result.column }
+        ensures part { Part self.old result self.new }
         ensures text { result.value.now ≡ take (self.new.at - self.old.at) (drop self.old.at (bytes self.old)) }
         ensures front { Front ending false (drop self.old.at (bytes self.old)) (self.new.at - self.old.at) }
     {
@@ -133,19 +142,26 @@ impl<'a> Cursor<'a> {
 
     /// The word after the blanks that come next.
     pub(crate) fn next_word(&mut self) -> Marked<&'a [u8]>
-        ensures onward { Onward self.old self.new }
-        ensures place { Column (length (bytes self.old)) result.column }
+        ensures { Part self.old result self.new }
     {
         self.skip_blanks();
         self.word()
     }
 
-    /// The piece of a range after the blanks that come next, which is empty where none begins.
+    /// The piece of a range that begins here, which is empty where none begins.
+    fn piece(&mut self) -> Marked<&'a [u8]>
+        ensures part { Part self.old result self.new }
+        ensures text { result.value.now ≡ take (self.new.at - self.old.at) (drop self.old.at (bytes self.old)) }
+        ensures front { Front edge false (drop self.old.at (bytes self.old)) (self.new.at - self.old.at) }
+    {
+        self.until(is_edge)
+    }
+
+    /// The piece of a range after the blanks that come next.
     pub(crate) fn next_piece(&mut self) -> Marked<&'a [u8]>
-        ensures onward { Onward self.old self.new }
-        ensures place { Column (length (bytes self.old)) result.column }
+        ensures { Part self.old result self.new }
     {
         self.skip_blanks();
-        self.until(is_edge)
+        self.piece()
     }
 }
