@@ -1,7 +1,8 @@
 -- The number that a word of digits spells.
-use Rattle.std.specs.Prelude.{◌≡◌, ℕ, ◌+◌, ◌-◌, ◌*◌, ◌^◌, ◌<◌, ◌≤◌, Bool, true, false, cond, List, [], ◌∷◌, length, ℤ, pos, neg_ℤ, Some, None, Ok, Err, fold, Option, Result, FitsSigned, ◌==◌, nat_lt, slice_index}
+use Rattle.std.specs.Prelude.{◌≡◌, ℕ, ◌+◌, ◌-◌, ◌*◌, ◌^◌, ◌<◌, ◌≤◌, Bool, true, false, cond, List, [], ◌∷◌, length, ℤ, pos, neg_ℤ, Some, None, Ok, Err, fold, Option, Result, MatchResult, FitsSigned, ◌==◌, nat_lt, slice_index}
 use Rattle.std.specs.Int.{w64}
 use Rattle.std.specs.Char.{is_ascii_digit}
+use Rattle.std.specs.declared.num.TryFromIntError.{TryFromIntError}
 use Rattle.script.specs.declared.scan.numbers.Unread.{Unread}
 use Rattle.script.specs.declared.scan.numbers.Unread.TheVariants.{NoNumber, OutOfRange}
 
@@ -27,11 +28,20 @@ abbrev pub extended : Option ℕ → ℕ → Option ℕ
 extended None digit = None
 extended (Some number) digit = fitted (number * 10 + digit)
 
+-- values stand for the numbers below the limit, which is within 64 bits, and a number becomes a value just where it is below the limit
+pub record Narrows {X : Type 0} (gives : ℕ → Result X TryFromIntError → Type 0) (number : X → ℕ) (limit : ℕ) : Type 0 where
+  pub within : limit ≤ 2 ^ 64
+  pub below : (n : ℕ) (r : Result X TryFromIntError) → gives n r → MatchResult r (λ x. (number x ≡ n) × (n < limit)) (λ _. limit ≤ n)
+
+-- what a word is read as, where values that stand for the numbers below the limit are wanted
+abbrev pub ReadAs : {X : Type 0} → (X → ℕ) → ℕ → List ℕ → Result X Unread → Type 0
+ReadAs number limit word (Ok x) = Numeral word × (number x ≡ spelled word) × (number x < limit)
+ReadAs number limit word (Err NoNumber) = Numeral word → ⊥
+ReadAs number limit word (Err OutOfRange) = Numeral word × (limit ≤ spelled word)
+
 -- what a word is read as, where numbers below the limit are wanted
 abbrev pub Natural : ℕ → List ℕ → Result ℕ Unread → Type 0
-Natural limit word (Ok number) = Numeral word × (number ≡ spelled word) × (number < limit)
-Natural limit word (Err NoNumber) = Numeral word → ⊥
-Natural limit word (Err OutOfRange) = Numeral word × (limit ≤ spelled word)
+Natural limit word read = ReadAs (λ n. n) limit word read
 
 -- a minus stands in front
 abbrev pub negative : List ℕ → Bool

@@ -1,5 +1,7 @@
-ghost use Rattle.std.specs.Prelude.{◌≡◌, T};
+ghost use Rattle.std.specs.Prelude.{◌≡◌};
+ghost use Rattle.script.specs.declared.command.Value.TheVariants.{Cents, Line};
 
+use crate::expected::{Expected, What};
 use crate::selected::Selection;
 use cells::PayLine;
 use selection::Slice;
@@ -12,33 +14,46 @@ pub struct Marked<T> {
     pub value: T,
 }
 
+impl<T> Marked<T> {
+    /// What is wrong with this part.
+    pub(crate) fn expected(&self, what: What) -> Expected
+        ensures column { result.column ≡ self.now.column }
+        ensures lacks { result.what ≡ what }
+    {
+        Expected {
+            column: self.column,
+            what,
+        }
+    }
+}
+
 /// What every lent cell holds.
-#[derive(Clone, Copy)]
+#[derive(Clone, Copy, Debug, PartialEq, Eq)]
 pub enum Kind {
     Cents,
     Lines,
 }
 
 /// One cell's value.
-#[derive(Clone, Copy)]
+#[derive(Clone, Copy, Debug, PartialEq, Eq)]
 pub enum Value {
     Cents(i64),
     Line(PayLine),
 }
 
-impl Value {
-    /// Whether two values are the same.
-    pub fn same(&self, other: &Value) -> bool
-        ensures sound { T result → self.now ≡ other.now }
-        ensures complete { self.now ≡ other.now → T result }
-    {
-        match (*self, *other) {
-            (Value::Cents(mine), Value::Cents(theirs)) => mine == theirs,
-            (Value::Line(mine), Value::Line(theirs)) => mine.person == theirs.person
-                && mine.code == theirs.code
-                && mine.cents == theirs.cents,
-            _ => false,
-        }
+impl From<i64> for Value {
+    ghost from_gives = { λ x value. value ≡ Cents x };
+
+    fn from(cents: i64) -> Value {
+        Value::Cents(cents)
+    }
+}
+
+impl From<PayLine> for Value {
+    ghost from_gives = { λ x value. value ≡ Line x };
+
+    fn from(line: PayLine) -> Value {
+        Value::Line(line)
     }
 }
 
@@ -100,7 +115,7 @@ pub struct Filling {
 }
 
 /// A range on one axis of so many, with all others whole.
-#[derive(Clone, Copy)]
+#[derive(Clone, Copy, Debug, PartialEq, Eq)]
 pub struct Ruling {
     pub rank: usize,
     pub axis: usize,

@@ -1,7 +1,7 @@
 use std::fmt;
 
 /// What a number in a line stands for.
-#[derive(Clone, Copy)]
+#[derive(Clone, Copy, Debug, PartialEq, Eq)]
 pub enum Noun {
     Cells,
     Size,
@@ -21,27 +21,6 @@ pub enum Noun {
 }
 
 impl Noun {
-    /// The number's name, as a message has it.
-    fn name(self) -> &'static str {
-        match self {
-            Noun::Cells => "a number of cells",
-            Noun::Size => "a cell size in bytes",
-            Noun::Length => "a length",
-            Noun::Stride => "a stride",
-            Noun::Index => "an index",
-            Noun::Person => "a person's number",
-            Noun::Code => "a pay code",
-            Noun::Amount => "an amount in cents",
-            Noun::Axis => "an axis",
-            Noun::Rank => "a rank",
-            Noun::Count => "a count of axes",
-            Noun::Place => "an index",
-            Noun::Start => "the start of a range",
-            Noun::Stop => "the end of a range",
-            Noun::Step => "the step of a range",
-        }
-    }
-
     /// The numbers that are allowed, as a message has them.
     fn range(self) -> &'static str {
         match self {
@@ -55,8 +34,29 @@ impl Noun {
     }
 }
 
+impl fmt::Display for Noun {
+    fn fmt<W: fmt::Write>(&self, f: &mut fmt::Formatter<W>) -> fmt::Result {
+        f.write_str(match *self {
+            Noun::Cells => "a number of cells",
+            Noun::Size => "a cell size in bytes",
+            Noun::Length => "a length",
+            Noun::Stride => "a stride",
+            Noun::Index | Noun::Place => "an index",
+            Noun::Person => "a person's number",
+            Noun::Code => "a pay code",
+            Noun::Amount => "an amount in cents",
+            Noun::Axis => "an axis",
+            Noun::Rank => "a rank",
+            Noun::Count => "a count of axes",
+            Noun::Start => "the start of a range",
+            Noun::Stop => "the end of a range",
+            Noun::Step => "the step of a range",
+        })
+    }
+}
+
 /// What a line lacks.
-#[derive(Clone, Copy)]
+#[derive(Clone, Copy, Debug, PartialEq, Eq)]
 pub enum What {
     Ascii,
     Command,
@@ -80,15 +80,17 @@ pub enum What {
     Memory,
 }
 
-impl What {
-    /// What is lacking, in words.
-    fn words(self) -> &'static str {
-        match self {
+impl fmt::Display for What {
+    fn fmt<W: fmt::Write>(&self, f: &mut fmt::Formatter<W>) -> fmt::Result {
+        let words = match *self {
+            What::CellMemory(count) => return write!(f, "not enough memory for {count} cells"),
+            What::Memory => return f.write_str("not enough memory"),
+            What::Number(noun) => return write!(f, "expected {noun}"),
+            What::Range(noun) => return write!(f, "expected {noun} from {}", noun.range()),
             What::Ascii => "ASCII text",
             What::Command => {
                 "lend, open, slice, collapse, merge, fill, read, rule, info, cells or report"
             },
-            What::Number(noun) | What::Range(noun) => noun.name(),
             What::Kind => "cents or lines",
             What::Row => "a row in brackets, such as [2,3,4]",
             What::RowEnd => ", or ]",
@@ -103,25 +105,13 @@ impl What {
             What::Grid => "an open grid",
             What::CentsLent => "an amount in cents, since cents are lent",
             What::LinesLent => "a pay line PERSON/CODE/CENTS, since lines are lent",
-            What::CellMemory(_) | What::Memory => "memory",
-        }
-    }
-}
-
-impl fmt::Display for What {
-    fn fmt<W: fmt::Write>(&self, f: &mut fmt::Formatter<W>) -> fmt::Result {
-        let words = self.words();
-        match *self {
-            What::CellMemory(count) => write!(f, "not enough {words} for {count} cells"),
-            What::Memory => write!(f, "not enough {words}"),
-            What::Range(noun) => write!(f, "expected {words} from {}", noun.range()),
-            _ => write!(f, "expected {words}"),
-        }
+        };
+        write!(f, "expected {words}")
     }
 }
 
 /// Why a line is not performed: what it lacks, and at which column.
-#[derive(Clone, Copy)]
+#[derive(Clone, Copy, Debug, PartialEq, Eq)]
 pub struct Expected {
     pub column: usize,
     pub what: What,

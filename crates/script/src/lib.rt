@@ -3,6 +3,7 @@
 
 mod command;
 mod expected;
+mod list;
 mod parse;
 mod scan;
 mod selected;
@@ -11,5 +12,6 @@ pub use command::{
     Arrangement, Change, Command, Filling, Kind, Marked, Opening, Ruling, Storing, Value,
 };
 pub use expected::{Expected, Noun, What};
+pub use list::write_list;
 pub use parse::parse_line;
 pub use selected::{Selection, write_selection};

@@ -1,10 +1,11 @@
 ghost use Rattle.std.specs.Prelude.{◌≡◌};
 
+use crate::list::write_values;
 use selection::{Lent, Slice, SliceArg, SliceInfoElem};
 use std::fmt;
 
 /// A selection of a grid, as it is written.
-#[derive(Drop)]
+#[derive(PartialEq, Eq, Drop)]
 pub struct Selection {
     pub elems: Vec<SliceInfoElem>,
 }
@@ -15,11 +16,6 @@ impl Selection {
         ensures { result.0.now ≡ self.now.elems.items }
     {
         Lent(self.elems.as_slice())
-    }
-
-    /// Whether two selections have the same elements.
-    pub fn same(&self, other: &Selection) -> bool {
-        self.elems.as_slice() == other.elems.as_slice()
     }
 }
 
@@ -34,24 +30,20 @@ pub fn write_selection<W: fmt::Write, S: SliceArg>(
     f: &mut fmt::Formatter<W>,
     sel: &S,
 ) -> fmt::Result {
-    f.write_str("[")?;
-    for place in 0..sel.len() {
-        if place > 0 {
-            f.write_str(",")?;
-        }
-        if let Some(elem) = sel.elem(place) {
-            write_elem(f, elem)?;
-        }
-    }
-    f.write_str("]")
+    write_values(f, sel.iter().map(Element))
 }
 
-/// Writes one element.
-fn write_elem<W: fmt::Write>(f: &mut fmt::Formatter<W>, elem: SliceInfoElem) -> fmt::Result {
-    match elem {
-        SliceInfoElem::Slice(range) => write_range(f, range),
-        SliceInfoElem::Index(index) => write!(f, "{index}"),
-        SliceInfoElem::NewAxis => f.write_str("NewAxis"),
+/// One element, as it is written.
+#[derive(Drop)]
+struct Element(SliceInfoElem);
+
+impl fmt::Display for Element {
+    fn fmt<W: fmt::Write>(&self, f: &mut fmt::Formatter<W>) -> fmt::Result {
+        match self.0 {
+            SliceInfoElem::Slice(range) => write_range(f, range),
+            SliceInfoElem::Index(index) => write!(f, "{index}"),
+            SliceInfoElem::NewAxis => f.write_str("NewAxis"),
+        }
     }
 }
 

@@ -18,15 +18,6 @@ fn filled_size(layout: &Layout, selection: &Option<Selection>) -> usize {
     }
 }
 
-/// Whether two fillings choose their cells alike.
-fn same_choice(mine: &Option<Selection>, theirs: &Option<Selection>) -> bool {
-    match (mine, theirs) {
-        (None, None) => true,
-        (Some(mine), Some(theirs)) => mine.same(theirs),
-        _ => false,
-    }
-}
-
 /// A filling that was done: what it wrote where, how many cells it wrote, and how many times in a row.
 #[derive(Drop)]
 pub(crate) struct Filled {
@@ -39,7 +30,7 @@ pub(crate) struct Filled {
 impl Filled {
     /// Whether this filling was the same.
     fn is_same(&self, filling: &Filling) -> bool {
-        self.value.same(&filling.value.value) && same_choice(&self.selection, &filling.selection)
+        self.value == filling.value.value && self.selection == filling.selection
     }
 }
 

@@ -1,27 +1,23 @@
-ghost use Rattle.std.specs.Prelude.{length};
-ghost use Rattle.script.specs.Cursors.{Onward, Placed, bytes};
+ghost use Rattle.script.specs.Cursors.{Step};
 
 use super::ranges::range;
 use super::selections::selection;
-use super::values::{noted_as, number, value};
+use super::values::{number, value};
 use crate::command::{Change, Command, Filling, Ruling, Storing};
 use crate::expected::{Expected, Noun, What};
 use crate::scan::Cursor;
 use crate::scan::numbers::natural;
-use std::alloc::Global;
 
 /// The selection to slice by.
-pub(super) fn slice(heap: Global, cursor: &mut Cursor<'_>) -> Result<Command, Expected>
-    ensures onward { Onward cursor.old cursor.new }
-    ensures place { Placed (length (bytes cursor.old)) result }
+pub(super) fn slice(cursor: &mut Cursor<'_>) -> Result<Command, Expected>
+    ensures { Step cursor.old result cursor.new }
 {
-    Ok(Command::Change(Change::Slice(selection(heap, cursor)?)))
+    Ok(Command::Change(Change::Slice(selection(cursor)?)))
 }
 
 /// The axis to collapse, and the index that it keeps.
 pub(super) fn collapse(cursor: &mut Cursor<'_>) -> Result<Command, Expected>
-    ensures onward { Onward cursor.old cursor.new }
-    ensures place { Placed (length (bytes cursor.old)) result }
+    ensures { Step cursor.old result cursor.new }
 {
     let axis = number(cursor, Noun::Axis)?.value;
     let index = number(cursor, Noun::Index)?.value;
@@ -30,8 +26,7 @@ pub(super) fn collapse(cursor: &mut Cursor<'_>) -> Result<Command, Expected>
 
 /// The axis to merge, and the axis into which it goes.
 pub(super) fn merge(cursor: &mut Cursor<'_>) -> Result<Command, Expected>
-    ensures onward { Onward cursor.old cursor.new }
-    ensures place { Placed (length (bytes cursor.old)) result }
+    ensures { Step cursor.old result cursor.new }
 {
     let take = number(cursor, Noun::Axis)?.value;
     let into = number(cursor, Noun::Axis)?.value;
@@ -39,13 +34,12 @@ pub(super) fn merge(cursor: &mut Cursor<'_>) -> Result<Command, Expected>
 }
 
 /// What to fill: a selection, where a bracket begins one, and the value.
-pub(super) fn fill(heap: Global, cursor: &mut Cursor<'_>) -> Result<Command, Expected>
-    ensures onward { Onward cursor.old cursor.new }
-    ensures place { Placed (length (bytes cursor.old)) result }
+pub(super) fn fill(cursor: &mut Cursor<'_>) -> Result<Command, Expected>
+    ensures { Step cursor.old result cursor.new }
 {
     cursor.skip_blanks();
     let selection = if cursor.is_next(b'[') {
-        Some(selection(heap, cursor)?)
+        Some(selection(cursor)?)
     } else {
         None
     };
@@ -55,8 +49,7 @@ pub(super) fn fill(heap: Global, cursor: &mut Cursor<'_>) -> Result<Command, Exp
 
 /// The rank, the axis and the range of a rule.
 pub(super) fn rule(cursor: &mut Cursor<'_>) -> Result<Command, Expected>
-    ensures onward { Onward cursor.old cursor.new }
-    ensures place { Placed (length (bytes cursor.old)) result }
+    ensures { Step cursor.old result cursor.new }
 {
     let rank = number(cursor, Noun::Rank)?.value;
     let axis = number(cursor, Noun::Axis)?.value;
@@ -65,13 +58,12 @@ pub(super) fn rule(cursor: &mut Cursor<'_>) -> Result<Command, Expected>
 }
 
 /// The two counts that a selection should have, and the selection.
-pub(super) fn info(heap: Global, cursor: &mut Cursor<'_>) -> Result<Command, Expected>
-    ensures onward { Onward cursor.old cursor.new }
-    ensures place { Placed (length (bytes cursor.old)) result }
+pub(super) fn info(cursor: &mut Cursor<'_>) -> Result<Command, Expected>
+    ensures { Step cursor.old result cursor.new }
 {
     let in_dim = count(cursor)?;
     let out_dim = count(cursor)?;
-    let selection = selection(heap, cursor)?;
+    let selection = selection(cursor)?;
     Ok(Command::Info(Storing {
         in_dim,
         out_dim,
@@ -81,13 +73,11 @@ pub(super) fn info(heap: Global, cursor: &mut Cursor<'_>) -> Result<Command, Exp
 
 /// A count of axes, or none where a low line stands for it.
 fn count(cursor: &mut Cursor<'_>) -> Result<Option<usize>, Expected>
-    ensures onward { Onward cursor.old cursor.new }
-    ensures place { Placed (length (bytes cursor.old)) result }
+    ensures { Step cursor.old result cursor.new }
 {
     let word = cursor.next_word();
     if word.value == b"_".as_slice() {
         return Ok(None);
     }
-    let count = noted_as(natural(word.value), word.column, What::Count, Noun::Count)?;
-    Ok(Some(count as usize))
+    word.read_or(natural, What::Count, Noun::Count).map(Some)
 }

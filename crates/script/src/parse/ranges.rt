@@ -1,7 +1,6 @@
 ghost use Rattle.std.specs.Prelude.{◌≡◌, length, IfErr};
-ghost use Rattle.script.specs.Cursors.{Column, Onward, Placed, bytes};
+ghost use Rattle.script.specs.Cursors.{Column, Step, bytes};
 
-use super::values::noted;
 use crate::command::Marked;
 use crate::expected::{Expected, Noun, What};
 use crate::scan::Cursor;
@@ -15,14 +14,12 @@ fn place(piece: Marked<&[u8]>, noun: Noun) -> Result<Option<isize>, Expected>
     if piece.value.is_empty() {
         return Ok(None);
     }
-    let number = noted(integer(piece.value), piece.column, noun)?;
-    Ok(Some(number as isize))
+    Ok(Some(piece.read(integer, noun)? as isize))
 }
 
 /// The two dots of a range.
 fn dots(cursor: &mut Cursor<'_>) -> Result<(), Expected>
-    ensures onward { Onward cursor.old cursor.new }
-    ensures place { Placed (length (bytes cursor.old)) result }
+    ensures { Step cursor.old result cursor.new }
 {
     cursor.skip_blanks();
     let missing = cursor.expected(What::Dots);
@@ -35,23 +32,19 @@ fn dots(cursor: &mut Cursor<'_>) -> Result<(), Expected>
 
 /// The step of a range, which is 1 where no semicolon follows.
 fn step(cursor: &mut Cursor<'_>) -> Result<isize, Expected>
-    ensures onward { Onward cursor.old cursor.new }
-    ensures place { Placed (length (bytes cursor.old)) result }
+    ensures { Step cursor.old result cursor.new }
 {
     cursor.skip_blanks();
     if !cursor.take(b';') {
         return Ok(1);
     }
-    let piece = cursor.next_piece();
-    let step = noted(integer(piece.value), piece.column, Noun::Step)?;
-    Ok(step as isize)
+    Ok(cursor.next_piece().read(integer, Noun::Step)? as isize)
 }
 
 /// A range of which the start is read; its end and its step may be left out.
 pub(super) fn range_from(first: Marked<&[u8]>, cursor: &mut Cursor<'_>) -> Result<Slice, Expected>
     requires { Column (length (bytes cursor.old)) first.column }
-    ensures onward { Onward cursor.old cursor.new }
-    ensures place { Placed (length (bytes cursor.old)) result }
+    ensures { Step cursor.old result cursor.new }
 {
     let start = place(first, Noun::Start)?.unwrap_or(0);
     dots(cursor)?;
@@ -62,8 +55,7 @@ pub(super) fn range_from(first: Marked<&[u8]>, cursor: &mut Cursor<'_>) -> Resul
 
 /// A range, of which all but the dots may be left out.
 pub(super) fn range(cursor: &mut Cursor<'_>) -> Result<Slice, Expected>
-    ensures onward { Onward cursor.old cursor.new }
-    ensures place { Placed (length (bytes cursor.old)) result }
+    ensures { Step cursor.old result cursor.new }
 {
     let first = cursor.next_piece();
     range_from(first, cursor)

@@ -1,88 +1,93 @@
-ghost use Rattle.std.specs.Prelude.{◌≡◌, length, IfErr};
-ghost use Rattle.script.specs.Cursors.{Onward, Placed, bytes};
+ghost use Rattle.std.specs.Prelude.{◌≡◌, IfErr};
+ghost use Rattle.script.specs.Cursors.{Step};
 
 use crate::command::{Marked, Value};
 use crate::expected::{Expected, Noun, What};
 use crate::scan::Cursor;
-use crate::scan::numbers::{Unread, integer, natural, natural_u8, natural_u32};
+use crate::scan::numbers::{Unread, integer, natural};
 use cells::PayLine;
 
-/// Says at which column a word is no such number, and what is lacking where it is no number at all.
-pub(super) fn noted_as<T>(
-    read: Result<T, Unread>,
-    column: usize,
-    what: What,
-    noun: Noun,
-) -> Result<T, Expected>
-    ensures { IfErr result (λ e. e.column ≡ column) }
-{
-    match read {
-        Ok(number) => Ok(number),
-        Err(Unread::NoNumber) => Err(Expected { column, what }),
-        Err(Unread::OutOfRange) => Err(Expected {
-            column,
-            what: What::Range(noun),
-        }),
+impl Unread {
+    /// What is wrong at the column of a word that is not read as a number.
+    fn at(self, column: usize, missing: What, noun: Noun) -> Expected
+        ensures { result.column ≡ column }
+    {
+        let what = match self {
+            Unread::NoNumber => missing,
+            Unread::OutOfRange => What::Range(noun),
+        };
+        Expected { column, what }
     }
 }
 
-/// Says at which column a word is no such number.
-pub(super) fn noted<T>(read: Result<T, Unread>, column: usize, noun: Noun) -> Result<T, Expected>
-    ensures { IfErr result (λ e. e.column ≡ column) }
-{
-    noted_as(read, column, What::Number(noun), noun)
+impl<'a> Marked<&'a [u8]> {
+    /// The word as a number, by a way to read it, where something else might stand in its place.
+    pub(super) fn read_or<T, F: Fn(&[u8]) -> Result<T, Unread>>(
+        &self,
+        read: F,
+        missing: What,
+        noun: Noun,
+    ) -> Result<T, Expected>
+        requires { F.IsAlwaysCallable read }
+        ensures { IfErr result (λ e. e.column ≡ self.now.column) }
+    {
+        let column = self.column;
+        read(self.value).map_err(|unread| unread.at(column, missing, noun))
+    }
+
+    /// The word as a number, by a way to read it.
+    pub(super) fn read<T, F: Fn(&[u8]) -> Result<T, Unread>>(
+        &self,
+        read: F,
+        noun: Noun,
+    ) -> Result<T, Expected>
+        requires { F.IsAlwaysCallable read }
+        ensures { IfErr result (λ e. e.column ≡ self.now.column) }
+    {
+        self.read_or(read, What::Number(noun), noun)
+    }
 }
 
 /// The next word as a number of 64 bits.
 pub(super) fn number(cursor: &mut Cursor<'_>, noun: Noun) -> Result<Marked<usize>, Expected>
-    ensures onward { Onward cursor.old cursor.new }
-    ensures place { Placed (length (bytes cursor.old)) result }
+    ensures { Step cursor.old result cursor.new }
 {
     let word = cursor.next_word();
     let column = word.column;
-    let value = noted(natural(word.value), column, noun)? as usize;
+    let value = word.read(natural, noun)?;
     Ok(Marked { column, value })
 }
 
 /// The next word as a stride, kept as its word of two's complement.
 pub(super) fn stride(cursor: &mut Cursor<'_>) -> Result<usize, Expected>
-    ensures onward { Onward cursor.old cursor.new }
-    ensures place { Placed (length (bytes cursor.old)) result }
+    ensures { Step cursor.old result cursor.new }
 {
     let word = cursor.next_word();
-    let stride = noted(integer(word.value), word.column, Noun::Stride)?;
-    Ok(stride.cast_unsigned() as usize)
+    Ok(word.read(integer, Noun::Stride)?.cast_unsigned() as usize)
 }
 
 /// A cell's value: an amount, or a pay line, which has slashes.
 pub(super) fn value(cursor: &mut Cursor<'_>) -> Result<Marked<Value>, Expected>
-    ensures onward { Onward cursor.old cursor.new }
-    ensures place { Placed (length (bytes cursor.old)) result }
+    ensures { Step cursor.old result cursor.new }
 {
     let first = cursor.next_word();
     let column = first.column;
     if !cursor.take(b'/') {
-        let cents = noted_as(integer(first.value), column, What::Value, Noun::Amount)?;
-        let value = Value::Cents(cents);
+        let value = Value::from(first.read_or(integer, What::Value, Noun::Amount)?);
         return Ok(Marked { column, value });
     }
-    let person = noted(natural_u32(first.value), column, Noun::Person)?;
-    let value = Value::Line(pay_line(person, cursor)?);
+    let person = first.read(natural, Noun::Person)?;
+    let value = Value::from(pay_line(person, cursor)?);
     Ok(Marked { column, value })
 }
 
 /// A pay line of which the person and a slash are read.
 fn pay_line(person: u32, cursor: &mut Cursor<'_>) -> Result<PayLine, Expected>
-    ensures onward { Onward cursor.old cursor.new }
-    ensures place { Placed (length (bytes cursor.old)) result }
+    ensures { Step cursor.old result cursor.new }
 {
-    let second = cursor.word();
-    let code = noted(natural_u8(second.value), second.column, Noun::Code)?;
-    if !cursor.take(b'/') {
-        return Err(cursor.expected(What::Slash));
-    }
-    let third = cursor.word();
-    let cents = noted(integer(third.value), third.column, Noun::Amount)?;
+    let code = cursor.word().read(natural, Noun::Code)?;
+    cursor.demand(b'/', What::Slash)?;
+    let cents = cursor.word().read(integer, Noun::Amount)?;
     Ok(PayLine {
         person,
         code,

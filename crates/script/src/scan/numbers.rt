@@ -1,5 +1,6 @@
-ghost use Rattle.std.specs.Prelude.{◌≡◌, ◌^◌, MatchBool};
-ghost use Rattle.script.specs.Numerals.{Integer, Natural, Numeral, extended, negative, unsigned};
+ghost use Rattle.std.specs.Prelude.{◌≡◌, ℕ, ◌+◌, ◌-◌, ◌^◌, ◌<◌, ◌≤◌, Result, MatchBool, MatchResult};
+ghost use Rattle.std.proofs.Common.{rules};
+ghost use Rattle.script.specs.Numerals.{Integer, Narrows, Natural, Numeral, ReadAs, extended, fitted, spelled};
 ghost use Rattle.script.specs.declared.scan.numbers.Unread.TheVariants.{OutOfRange};
 
 use std::num::TryFromIntError;
@@ -19,70 +20,88 @@ impl From<TryFromIntError> for Unread {
     }
 }
 
+/// A type of the numbers from 0 up to a limit.
+pub(crate) trait Unsigned: TryFrom<u64, Error = TryFromIntError> {
+    /// The first number that is too large.
+    ghost limit: { ℕ };
+
+    /// The number that a value is.
+    ghost number: { Self → ℕ };
+
+    /// A number becomes a value just where it is below the limit, which is within 64 bits.
+    ghost narrows: { Narrows Self.try_from_gives number limit };
+}
+
+impl Unsigned for u8 {
+    ghost limit = { 2 ^ 8 };
+
+    ghost number = { λ x. x };
+
+    ghost narrows = { Prim.search rules };
+}
+
+impl Unsigned for u32 {
+    ghost limit = { 2 ^ 32 };
+
+    ghost number = { λ x. x };
+
+    ghost narrows = { Prim.search rules };
+}
+
+impl Unsigned for usize {
+    ghost limit = { 2 ^ 64 };
+
+    ghost number = { λ x. x };
+
+    ghost narrows = { Prim.search rules };
+}
+
 /// Whether a word is digits alone, and has one.
 fn is_numeral(word: &[u8]) -> bool
     ensures { MatchBool result (Numeral word.now) (Numeral word.now → ⊥) }
 {
-    for byte in word {
-        if !byte.is_ascii_digit() {
-            return false;
-        }
-    }
-    !word.is_empty()
+    !word.is_empty() && word.iter().all(u8::is_ascii_digit)
 }
 
 /// The number with one more digit, if it fits.
-fn with_digit(number: Option<u64>, digit: u8) -> Option<u64>
-    ensures { result ≡ extended number digit }
+fn with_digit(number: Option<u64>, byte: &u8) -> Option<u64>
+    ensures { result ≡ extended number (byte.now - 48) }
 {
-    number?.checked_mul(10)?.checked_add(u64::from(digit))
+    let digit = u64::from(byte.saturating_sub(b'0'));
+    number?.checked_mul(10)?.checked_add(digit)
 }
 
-/// A decimal number; a word that has another byte than digits is none, however long it is.
-pub(crate) fn natural(word: &[u8]) -> Result<u64, Unread>
+/// The number that digits spell, if it fits 64 bits.
+fn value(word: &[u8]) -> Option<u64>
+    ensures { result ≡ fitted (spelled word.now) }
+{
+    word.iter().fold(Some(0), with_digit)
+}
+
+/// A decimal number of 64 bits; a word that has another byte than digits is none, however long it is.
+fn decimal(word: &[u8]) -> Result<u64, Unread>
     ensures { Natural (2 ^ 64) word.now result }
 {
     if !is_numeral(word) {
         return Err(Unread::NoNumber);
     }
-    let mut number = Some(0);
-    for byte in word {
-        number = with_digit(number, byte.saturating_sub(b'0'));
-    }
-    number.ok_or(Unread::OutOfRange)
+    value(word).ok_or(Unread::OutOfRange)
 }
 
-/// A decimal number of 32 bits.
-pub(crate) fn natural_u32(word: &[u8]) -> Result<u32, Unread>
-    ensures { Natural (2 ^ 32) word.now result }
+/// A decimal number of an unsigned type.
+pub(crate) fn natural<T: Unsigned>(word: &[u8]) -> Result<T, Unread>
+    ensures { ReadAs T.number T.limit word.now result }
 {
-    Ok(u32::try_from(natural(word)?)?)
-}
-
-/// A decimal number of 8 bits.
-pub(crate) fn natural_u8(word: &[u8]) -> Result<u8, Unread>
-    ensures { Natural (2 ^ 8) word.now result }
-{
-    Ok(u8::try_from(natural(word)?)?)
-}
-
-/// Whether a minus stands in front of a word, and what stands behind it.
-fn split_sign(word: &[u8]) -> (bool, &[u8])
-    ensures sign { result.0 ≡ negative word.now }
-    ensures rest { result.1.now ≡ unsigned word.now }
-{
-    match word {
-        [b'-', digits @ ..] => (true, digits),
-        _ => (false, word),
-    }
+    Ok(T::try_from(decimal(word)?)?)
 }
 
 /// A decimal number that may have a minus in front.
 pub(crate) fn integer(word: &[u8]) -> Result<i64, Unread>
     ensures { Integer word.now result }
 {
-    let (below, digits) = split_sign(word);
-    let magnitude = i128::from(natural(digits)?);
-    let number = if below { -magnitude } else { magnitude };
+    let number = match word.strip_prefix(b"-") {
+        Some(digits) => -i128::from(decimal(digits)?),
+        None => i128::from(decimal(word)?),
+    };
     Ok(i64::try_from(number)?)
 }

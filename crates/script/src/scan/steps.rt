@@ -1,15 +1,23 @@
-ghost use Rattle.std.specs.Prelude.{◌≡◌, ◌+◌, ◌-◌, ◌<◌, ◌≤◌, true, false, T, length, take, drop, if◌then◌else◌};
-ghost use Rattle.script.specs.Cursors.{Column, Front, Onward, blank, bytes, edge, ending};
+ghost use Rattle.std.specs.Prelude.{◌≡◌, ◌+◌, ◌-◌, ◌<◌, ◌≤◌, true, false, not, T, length, take, drop, slice_index, if◌then◌else◌};
+ghost use Rattle.script.specs.Cursors.{Column, Front, Onward, Part, Step, Until, blank, bytes, edge, ending};
 
 use super::Cursor;
 use crate::command::Marked;
 use crate::expected::{Expected, What};
+use std::alloc::Global;
 
 /// Whether a byte only keeps words apart.
-pub(crate) fn is_blank(byte: u8) -> bool
+fn is_blank(byte: u8) -> bool
     ensures { result ≡ blank byte }
 {
     byte == b' ' || byte == b'\t'
+}
+
+/// Whether a byte is no blank.
+pub(crate) fn not_blank(byte: u8) -> bool
+    ensures { result ≡ not (blank byte) }
+{
+    !is_blank(byte)
 }
 
 /// Whether a byte ends a word: a blank or a mark.
@@ -26,48 +34,22 @@ fn is_edge(byte: u8) -> bool
     is_ending(byte) || byte == b'.' || byte == b';'
 }
 
-/// How many bytes at the front are blanks.
-fn blanks(text: &[u8]) -> usize
-    ensures { Front blank true text.now result }
+/// How many bytes stand before the first at which to stop, which is all of them where there is none.
+pub(crate) fn front<F: Fn(u8) -> bool>(text: &[u8], stop: F) -> usize
+    requires { F.IsAlwaysCallable stop }
+    ensures { Until (F.post stop) text.now result }
 {
-    for (count, byte) in text.iter().enumerate() {
-        if !is_blank(*byte) {
-            return count;
-        }
-    }
-    text.len()
-}
-
-/// How many bytes at the front are part of a word.
-fn parts(text: &[u8]) -> usize
-    ensures { Front ending false text.now result }
-{
-    for (count, byte) in text.iter().enumerate() {
-        if is_ending(*byte) {
-            return count;
-        }
-    }
-    text.len()
-}
-
-/// How many bytes at the front are part of a piece of a range.
-fn pieces(text: &[u8]) -> usize
-    ensures { Front edge false text.now result }
-{
-    for (count, byte) in text.iter().enumerate() {
-        if is_edge(*byte) {
-            return count;
-        }
-    }
-    text.len()
+    text.iter()
+        .position(|byte| stop(*byte))
+        .unwrap_or(text.len())
 }
 
 impl<'a> Cursor<'a> {
     /// The front of a line.
-    pub(crate) fn new(line: &'a [u8]) -> Cursor<'a>
+    pub(crate) fn new(heap: Global, line: &'a [u8]) -> Cursor<'a>
         ensures { bytes result ≡ line.now }
     {
-        Cursor { line, at: 0 }
+        Cursor { heap, line, at: 0 }
     }
 
     /// The column of the next byte, counted from 1.
@@ -98,7 +80,7 @@ impl<'a> Cursor<'a> {
     pub(crate) fn is_next(&self, byte: u8) -> bool
         ensures { T result → self.now.at < length (bytes self.now) }
     {
-        self.at < self.line.len() && self.line[self.at] == byte
+        self.line.get(self.at) == Some(&byte)
     }
 
     /// Steps over the next byte if it is this one.
@@ -113,49 +95,73 @@ impl<'a> Cursor<'a> {
         found
     }
 
+    /// Steps over the next byte, which has to be this one.
+    pub(crate) fn demand(&mut self, byte: u8, missing: What) -> Result<(), Expected>
+        ensures { Step self.old result self.new }
+    {
+        if self.take(byte) {
+            Ok(())
+        } else {
+            Err(self.expected(missing))
+        }
+    }
+
+    /// Steps on to the next byte at which to stop, or to the end, and gives what lies between.
+    fn until<F: Fn(u8) -> bool>(&mut self, stop: F) -> Marked<&'a [u8]>
+        requires { F.IsAlwaysCallable stop }
+        ensures part { Part self.old result self.new }
+        ensures text { result.value.now ≡ take (self.new.at - self.old.at) (drop self.old.at (bytes self.old)) }
+        ensures front { Until (F.post stop) (drop self.old.at (bytes self.old)) (self.new.at - self.old.at) }
+    {
+        let column = self.column();
+        let rest = &self.line[self.at..];
+        let count = front(rest, stop);
+        self.at += count;
+        Marked {
+            column,
+            value: &rest[..count],
+        }
+    }
+
     /// Steps over the blanks that come next.
     pub(crate) fn skip_blanks(&mut self)
-        ensures { Onward self.old self.new }
+        ensures onward { Onward self.old self.new }
+        ensures front { Front blank true (drop self.old.at (bytes self.old)) (self.new.at - self.old.at) }
     {
-        self.at += blanks(&self.line[self.at..]);
+        self.until(not_blank);
     }
 
     /// The word that begins here, which is empty before a blank or a mark.
     pub(crate) fn word(&mut self) -> Marked<&'a [u8]>
-        ensures onward { Onward self.old self.new }
-        ensures place { Column (length (bytes self.old)) result.column }
+        ensures part { Part self.old result self.new }
         ensures text { result.value.now ≡ take (self.new.at - self.old.at) (drop self.old.at (bytes self.old)) }
+        ensures front { Front ending false (drop self.old.at (bytes self.old)) (self.new.at - self.old.at) }
     {
-        let column = self.column();
-        let start = self.at;
-        self.at += parts(&self.line[start..]);
-        Marked {
-            column,
-            value: &self.line[start..self.at],
-        }
+        self.until(is_ending)
     }
 
     /// The word after the blanks that come next.
     pub(crate) fn next_word(&mut self) -> Marked<&'a [u8]>
-        ensures onward { Onward self.old self.new }
-        ensures place { Column (length (bytes self.old)) result.column }
+        ensures { Part self.old result self.new }
     {
         self.skip_blanks();
         self.word()
     }
 
-    /// The piece of a range after the blanks that come next, which is empty where none begins.
+    /// The piece of a range that begins here, which is empty where none begins.
+    fn piece(&mut self) -> Marked<&'a [u8]>
+        ensures part { Part self.old result self.new }
+        ensures text { result.value.now ≡ take (self.new.at - self.old.at) (drop self.old.at (bytes self.old)) }
+        ensures front { Front edge false (drop self.old.at (bytes self.old)) (self.new.at - self.old.at) }
+    {
+        self.until(is_edge)
+    }
+
+    /// The piece of a range after the blanks that come next.
     pub(crate) fn next_piece(&mut self) -> Marked<&'a [u8]>
-        ensures onward { Onward self.old self.new }
-        ensures place { Column (length (bytes self.old)) result.column }
+        ensures { Part self.old result self.new }
     {
         self.skip_blanks();
-        let column = self.column();
-        let start = self.at;
-        self.at += pieces(&self.line[start..]);
-        Marked {
-            column,
-            value: &self.line[start..self.at],
-        }
+        self.piece()
     }
 }

@@ -1,6 +1,0 @@
-use Rattle.std.proofs.Common.{◌≡◌, ℕ, ◌<◌, false, get_or}
-use Rattle.script.specs.Cursors.{edge}
-use Rattle.script.proofs.scan.steps.pieces.Given as goal
-
-abbrev pub invariant-loop-count : goal.invariant-loop-count
-invariant-loop-count l = (k : ℕ) → k < l.count → edge (get_or l.text k 0) ≡ false
