@@ -1,14 +1,14 @@
-ghost use Rattle.std.specs.Prelude.{◌≡◌, ◌+◌, ◌<◌, ◌≤◌, ◌++◌, length, take, drop, pos, ◌*ℤ◌};
+ghost use Rattle.std.specs.Prelude.{◌≡◌, ◌+◌, ◌≤◌, ◌++◌, length, take, drop, pos, ◌*ℤ◌};
 ghost use Rattle.std.specs.Int.{w64};
+ghost use Rattle.std.specs.Option.{option_map};
 ghost use Rattle.std.proofs.Common.{to_z};
 ghost use Rattle.laws.specs.Strides.{signed};
 ghost use Rattle.laws.specs.Merging.{same_stride};
-ghost use Rattle.laws.specs.Reshaping.{linked, group, Ready};
+ghost use Rattle.laws.specs.Reshaping.{linked, group};
 ghost use Rattle.laws.specs.ReshapingSteps.{ends, quotients};
 ghost use Rattle.dimension.specs.Errors.{answered};
-ghost use Rattle.reshaping.specs.Readiness.{ready_prop};
-ghost use Rattle.reshaping.specs.Reshapes.{reads};
 
+use crate::turn::Turn;
 use dimension::{Dimension, RowFault, word_at};
 
 /// Whether a stride is the next length times the next stride.
@@ -20,25 +20,12 @@ fn in_step(stride: usize, length: usize, other: usize) -> bool
 
 /// The stride to which the next axis of an old group is held, or none where the two axes do not lie in step.
 fn linked(before: usize, length: usize, stride: usize) -> Option<usize>
-    ensures { reads result ≡ linked length (to_z w64 before) (to_z w64 stride) }
+    ensures { option_map (λ w. to_z w64 w) result ≡ linked length (to_z w64 before) (to_z w64 stride) }
 {
     if length == 1 {
         return Some(before);
     }
     in_step(before, length, stride).then_some(stride)
-}
-
-/// The old and the new axis at which a turn of the walk begins; from there on both rows have one size.
-#[derive(Drop)]
-pub(crate) struct Turn<'a, F: Dimension, S: Dimension, E: Dimension> {
-    pub(crate) from: &'a F,
-    pub(crate) strides: &'a S,
-    pub(crate) to: &'a E,
-    pub(crate) fi: usize,
-    pub(crate) ti: usize,
-    ghost old: { fi < length (F.Dimension.words from.now) },
-    ghost new: { ti < length (E.Dimension.words to.now) },
-    ghost ready: { Ready (drop fi (F.Dimension.words from.now)) (drop fi (signed (S.Dimension.words strides.now))) (drop ti (E.Dimension.words to.now)) } by { ready_prop (drop fi (F.Dimension.words from.now)) (drop fi (signed (S.Dimension.words strides.now))) (drop ti (E.Dimension.words to.now)) },
 }
 
 impl<'a, F: Dimension, S: Dimension, E: Dimension> Turn<'a, F, S, E> {

@@ -1,33 +1,24 @@
-use Rattle.std.proofs.Common.{◌≡◌, ◌+◌, ◌-◌, ◌≤◌, ◌⊎◌, ◌++◌, length, take, replicate, pos, Ok, refl, sym, ap, ◌∙◌, inl, inr, arith, w64, to_z}
+use Rattle.std.proofs.Common.{◌≡◌, ◌-◌, ◌≤◌, ◌⊎◌, ◌++◌, length, take, replicate, pos, Ok, refl, sym, ap, ◌∙◌, inl, inr, arith, w64, to_z}
 use Rattle.std.proofs.lemmas.List.{length-map}
 use Rattle.std.proofs.lemmas.Result.{err_from_is_err_and}
 use Rattle.laws.specs.Strides.{signed}
 use Rattle.laws.specs.ReshapingSteps.{Step}
-use Rattle.dimension.specs.Errors.{row_fault}
 use Rattle.laws.proofs.ReshapingWalkLoop.{walking_start, walking_on, walking_refused, walking_done}
 use Rattle.reshaping.proofs.walk.reshape_dim_c.Goals as goal
 use Rattle.reshaping.proofs.walk.reshape_dim_c.Goals.{then-loop-fi-test+else-ti-ndim, else-loop-fi-test}
 
 pub loop-fi-init : goal.loop-fi-init
-loop-fi-init g c = (
-  walking_start (g.F.Dimension.words c.args.from.now) (signed (g.S.Dimension.words c.args.strides.now)) (g.E.Dimension.words c.args.to.now) (signed (g.E.Dimension.words c.args.to.now)) c.requires,
-  refl,
-)
+loop-fi-init g c = (walking_start _ _ _ _ c.requires, refl)
 
 pub returns-in_err-olds : goal.returns-in_err-olds
 returns-in_err-olds g c =
     let p = err_from_is_err_and c.from_residual.result c.from_residual.ensures.1 in
-    rw (p.1, p.2) (walking_refused (g.F.Dimension.words c.args.from.now) (signed (g.S.Dimension.words c.args.strides.now)) (g.E.Dimension.words c.args.to.now) c.loop-fi.fi c.loop-fi.ti
-    (signed (g.E.Dimension.words c.loop-fi.out)) c.loop-fi.invariant.0 (row_fault c.in_err-olds.field-0.0) (omega arith) c.in_err-olds.ensures)
+    rw (p.1, p.2) (walking_refused _ _ _ _ _ _ c.loop-fi.invariant.0 _ (omega arith) c.in_err-olds.ensures)
 
 pub loop-fi-preserved : goal.loop-fi-preserved
 loop-fi-preserved g c =
-    let s : Step (g.F.Dimension.words c.args.from.now) (signed (g.S.Dimension.words c.args.strides.now)) (g.E.Dimension.words c.args.to.now) c.loop-fi.fi c.loop-fi.ti
-    (signed (g.E.Dimension.words c.loop-fi.out)) (signed (g.E.Dimension.words c.pass.new.out)) (c.loop-fi.fi + c.in_ok-olds.olds) (c.loop-fi.ti + c.in_ok-olds.news) = c.in_ok-olds.ensures in (
-      walking_on (g.F.Dimension.words c.args.from.now) (signed (g.S.Dimension.words c.args.strides.now)) (g.E.Dimension.words c.args.to.now) c.loop-fi.fi c.loop-fi.ti
-          (signed (g.E.Dimension.words c.loop-fi.out)) c.loop-fi.invariant.0 (signed (g.E.Dimension.words c.pass.new.out)) (c.loop-fi.fi + c.in_ok-olds.olds) (c.loop-fi.ti + c.in_ok-olds.news) (omega arith) (omega arith) s,
-      sym (length-map (g.E.Dimension.words c.pass.new.out) (λ w. to_z w64 w)) ∙ s.long ∙ length-map (g.E.Dimension.words c.loop-fi.out) (λ w. to_z w64 w) ∙ c.loop-fi.invariant.1,
-    )
+    let s : Step _ _ _ _ _ _ _ _ _ = c.in_ok-olds.ensures in
+    (walking_on _ _ _ _ _ _ c.loop-fi.invariant.0 _ _ _ (omega arith) (omega arith) s, simp length-map at s.long ∙ c.loop-fi.invariant.1)
 
 pub returns : goal.returns
 returns g c =

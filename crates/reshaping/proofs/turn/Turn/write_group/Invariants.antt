@@ -1,7 +1,7 @@
 use Rattle.std.proofs.Common.{◌≡◌, ◌+◌, ◌-◌, ◌++◌, length, take, drop}
 use Rattle.laws.specs.Strides.{signed}
 use Rattle.laws.specs.ReshapingSteps.{quotients}
-use Rattle.reshaping.proofs.groups.Turn.write_group.Given as goal
+use Rattle.reshaping.proofs.turn.Turn.write_group.Given as goal
 
 abbrev pub invariant-loop-place : goal.invariant-loop-place
 invariant-loop-place g l =

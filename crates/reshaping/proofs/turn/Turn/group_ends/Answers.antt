@@ -1,11 +1,11 @@
-use Rattle.std.proofs.Common.{◌≡◌, sym, ap, ◌∙◌, arith}
+use Rattle.std.proofs.Common.{◌≡◌, sym, ap, ◌∙◌, arith, w64, to_z}
+use Rattle.std.specs.Option.{option_map}
 use Rattle.std.proofs.lemmas.List.{length-drop}
 use Rattle.std.proofs.lemmas.Result.{err_from_is_err_and}
 use Rattle.laws.specs.ReshapingSteps.{ends}
 use Rattle.laws.proofs.ReshapingWalkEnds.{first_open, old_product_fits, new_product_fits, old_more, old_broken, new_more, all_done}
 use Rattle.dimension.specs.declared.error.RowFault.{RowFault}
-use Rattle.reshaping.specs.Reshapes.{reads}
-use Rattle.reshaping.proofs.groups.Turn.group_ends.Goals as goal
+use Rattle.reshaping.proofs.turn.Turn.group_ends.Goals as goal
 
 pub loop-old_product-init : goal.loop-old_product-init
 loop-old_product-init g c =
@@ -19,14 +19,12 @@ returns-in_err-stride g c =
     let none = c.in_err-stride.ensures.ok_part in
     let fault = rw none at c.in_err-stride.ensures.value in
     let layout : c.in_err-stride.field-0.0 ≡ RowFault.IncompatibleLayout = cc in
-    rw (p.1, p.2, layout) (ap ends (old_broken (g.F.Dimension.words self.from.now) (g.S.Dimension.words self.strides.now) (g.E.Dimension.words self.to.now) self.fi self.ti self.ready
-    _ _ _ _ _ c.loop-old_product.invariant c.if-old_product-new_product.true _ _ c.word_at-length.ensures c.word_at.ensures (ap reads (sym none) ∙ c.linked.ensures)))
+    rw (p.1, p.2, layout) (ap ends (old_broken _ (g.S.Dimension.words self.strides.now) _ self.fi self.ti self.ready _ _ _ _ _ c.loop-old_product.invariant c.if-old_product-new_product.true _ _ c.word_at-length.ensures c.word_at.ensures (ap (option_map (λ w. to_z w64 w)) (sym none) ∙ c.linked.ensures)))
 
 pub overflow_mul-old_product : goal.overflow_mul-old_product
 overflow_mul-old_product g c =
     let self = c.args.self.now in
-    let fits = old_product_fits (g.F.Dimension.words self.from.now) (g.S.Dimension.words self.strides.now) (g.E.Dimension.words self.to.now) self.fi self.ti self.ready
-    _ _ _ _ _ c.loop-old_product.invariant c.if-old_product-new_product.true c.word_at-length.result c.word_at-length.ensures in
+    let fits = old_product_fits _ (g.S.Dimension.words self.strides.now) _ self.fi self.ti self.ready _ _ _ _ _ c.loop-old_product.invariant c.if-old_product-new_product.true c.word_at-length.result c.word_at-length.ensures in
     omega arith
 
 pub overflow_add-olds : goal.overflow_add-olds
@@ -40,24 +38,20 @@ pub loop-old_product-preserved-then-old_product-new_product :
     goal.loop-old_product-preserved-then-old_product-new_product
 loop-old_product-preserved-then-old_product-new_product g c =
     let self = c.args.self.now in
-    old_more (g.F.Dimension.words self.from.now) (g.S.Dimension.words self.strides.now) (g.E.Dimension.words self.to.now) self.fi self.ti self.ready
-    _ _ _ _ _ c.loop-old_product.invariant c.if-old_product-new_product.true _ _ _ c.word_at-length.ensures c.word_at.ensures (ap reads (sym c.in_ok-stride.ensures.ok_part) ∙ c.linked.ensures)
+    old_more _ (g.S.Dimension.words self.strides.now) _ self.fi self.ti self.ready _ _ _ _ _ c.loop-old_product.invariant c.if-old_product-new_product.true _ _ _ c.word_at-length.ensures c.word_at.ensures (ap (option_map (λ w. to_z w64 w)) (sym c.in_ok-stride.ensures.ok_part) ∙ c.linked.ensures)
 
 pub overflow_mul-new_product : goal.overflow_mul-new_product
 overflow_mul-new_product g c =
     let self = c.args.self.now in
-    let fits = new_product_fits (g.F.Dimension.words self.from.now) (g.S.Dimension.words self.strides.now) (g.E.Dimension.words self.to.now) self.fi self.ti self.ready
-    _ _ _ _ _ c.loop-old_product.invariant (omega arith) c.word_at-new_product-else-old_product-new_product.result c.word_at-new_product-else-old_product-new_product.ensures in
+    let fits = new_product_fits _ (g.S.Dimension.words self.strides.now) _ self.fi self.ti self.ready _ _ _ _ _ c.loop-old_product.invariant (omega arith) c.word_at-new_product-else-old_product-new_product.result c.word_at-new_product-else-old_product-new_product.ensures in
     omega arith
 
 pub loop-old_product-preserved : goal.loop-old_product-preserved
 loop-old_product-preserved g c =
     let self = c.args.self.now in
-    new_more (g.F.Dimension.words self.from.now) (g.S.Dimension.words self.strides.now) (g.E.Dimension.words self.to.now) self.fi self.ti self.ready
-    _ _ _ _ _ c.loop-old_product.invariant (omega arith) _ c.word_at-new_product-else-old_product-new_product.ensures
+    new_more _ (g.S.Dimension.words self.strides.now) _ self.fi self.ti self.ready _ _ _ _ _ c.loop-old_product.invariant (omega arith) _ c.word_at-new_product-else-old_product-new_product.ensures
 
 pub returns : goal.returns
 returns g c =
     let self = c.args.self.now in
-    ap ends (all_done (g.F.Dimension.words self.from.now) (g.S.Dimension.words self.strides.now) (g.E.Dimension.words self.to.now) self.fi self.ti self.ready
-    _ _ _ _ _ c.loop-old_product.invariant c.loop-old_product-test.false)
+    ap ends (all_done _ (g.S.Dimension.words self.strides.now) _ self.fi self.ti self.ready _ _ _ _ _ c.loop-old_product.invariant c.loop-old_product-test.false)

@@ -1,7 +1,7 @@
 use Rattle.std.proofs.Common.{◌+◌, ◌-◌, length, drop, w64, to_z}
 use Rattle.laws.specs.Strides.{signed}
 use Rattle.laws.proofs.ReshapingGroupsClosing.{Open}
-use Rattle.reshaping.proofs.groups.Turn.group_ends.Given as goal
+use Rattle.reshaping.proofs.turn.Turn.group_ends.Given as goal
 
 abbrev pub invariant-loop-old_product : goal.invariant-loop-old_product
 invariant-loop-old_product g l =
