@@ -11,7 +11,7 @@ ghost use Rattle.dimension.specs.Errors.{answered};
 use crate::turn::Turn;
 use dimension::{Dimension, RowFault, word_at};
 
-/// Whether a stride is the next length times the next stride.
+/// Whether a stride is a length times another stride.
 fn in_step(stride: usize, length: usize, other: usize) -> bool
     ensures { result ≡ same_stride (to_z w64 stride) (pos length *ℤ to_z w64 other) }
 {
@@ -41,9 +41,8 @@ impl<'a, F: Dimension, S: Dimension, E: Dimension> Turn<'a, F, S, E> {
         while old_product != new_product {
             if old_product < new_product {
                 let length = word_at(self.from, self.fi + olds);
-                stride = linked(stride, length, word_at(self.strides, self.fi + olds)).ok_or(
-                    RowFault::IncompatibleLayout,
-                )?;
+                let next = word_at(self.strides, self.fi + olds);
+                stride = linked(stride, length, next).ok_or(RowFault::IncompatibleLayout)?;
                 old_product *= length;
                 olds += 1;
             } else {

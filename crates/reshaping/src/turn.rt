@@ -17,7 +17,7 @@ pub(crate) struct Turn<'a, F: Dimension, S: Dimension, E: Dimension> {
     pub(crate) ti: usize,
     ghost old: { fi < length (F.Dimension.words from.now) },
     ghost new: { ti < length (E.Dimension.words to.now) },
-    ghost ready: { Ready (drop fi (F.Dimension.words from.now)) (drop fi (signed (S.Dimension.words strides.now))) (drop ti (E.Dimension.words to.now)) } by { ready_prop (drop fi (F.Dimension.words from.now)) (drop fi (signed (S.Dimension.words strides.now))) (drop ti (E.Dimension.words to.now)) },
+    ghost ready: { Ready (drop fi (F.Dimension.words from.now)) (drop fi (signed (S.Dimension.words strides.now))) (drop ti (E.Dimension.words to.now)) } by { ready_prop _ _ _ },
 }
 
 impl<'a, F: Dimension, S: Dimension, E: Dimension> Turn<'a, F, S, E> {

@@ -19,7 +19,7 @@ returns-in_err-stride g c =
     let none = c.in_err-stride.ensures.ok_part in
     let fault = rw none at c.in_err-stride.ensures.value in
     let layout : c.in_err-stride.field-0.0 ≡ RowFault.IncompatibleLayout = cc in
-    rw (p.1, p.2, layout) (ap ends (old_broken _ (g.S.Dimension.words self.strides.now) _ self.fi self.ti self.ready _ _ _ _ _ c.loop-old_product.invariant c.if-old_product-new_product.true _ _ c.word_at-length.ensures c.word_at.ensures (ap (option_map (λ w. to_z w64 w)) (sym none) ∙ c.linked.ensures)))
+    rw (p.1, p.2, layout) (ap ends (old_broken _ (g.S.Dimension.words self.strides.now) _ self.fi self.ti self.ready _ _ _ _ _ c.loop-old_product.invariant c.if-old_product-new_product.true _ _ c.word_at-length.ensures c.word_at-next.ensures (ap (option_map (λ w. to_z w64 w)) (sym none) ∙ c.linked.ensures)))
 
 pub overflow_mul-old_product : goal.overflow_mul-old_product
 overflow_mul-old_product g c =
@@ -38,7 +38,7 @@ pub loop-old_product-preserved-then-old_product-new_product :
     goal.loop-old_product-preserved-then-old_product-new_product
 loop-old_product-preserved-then-old_product-new_product g c =
     let self = c.args.self.now in
-    old_more _ (g.S.Dimension.words self.strides.now) _ self.fi self.ti self.ready _ _ _ _ _ c.loop-old_product.invariant c.if-old_product-new_product.true _ _ _ c.word_at-length.ensures c.word_at.ensures (ap (option_map (λ w. to_z w64 w)) (sym c.in_ok-stride.ensures.ok_part) ∙ c.linked.ensures)
+    old_more _ (g.S.Dimension.words self.strides.now) _ self.fi self.ti self.ready _ _ _ _ _ c.loop-old_product.invariant c.if-old_product-new_product.true _ _ _ c.word_at-length.ensures c.word_at-next.ensures (ap (option_map (λ w. to_z w64 w)) (sym c.in_ok-stride.ensures.ok_part) ∙ c.linked.ensures)
 
 pub overflow_mul-new_product : goal.overflow_mul-new_product
 overflow_mul-new_product g c =
