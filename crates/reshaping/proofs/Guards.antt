@@ -1,6 +1,6 @@
 -- What the guard of the old rows gives, and that every grid passes it.
-use Rattle.std.proofs.Common.{◌≡◌, ℕ, zero, suc, ◌<◌, Bool, true, false, not, ◌&&◌, eqb, ltb, leb, List, ◌∷◌, length, replicate, ℤ, pos, Ok, Err, Result, sym, refl, ap, ◌∙◌, arith}
-use Rattle.std.proofs.lemmas.Bool.{and_parts, eq-eqb, eqb-true, leb-true, le-leb}
+use Rattle.std.proofs.Common.{◌≡◌, ℕ, zero, suc, true, false, not, ◌&&◌, eqb, ltb, leb, List, ◌∷◌, length, replicate, ℤ, pos, Ok, Err, Result, sym, refl, ap, ◌∙◌, arith}
+use Rattle.std.proofs.lemmas.Bool.{and_parts, eq-eqb, eqb-true, leb-true, le-leb, not-false}
 use Rattle.laws.specs.Lengths.{product, nonzeros}
 use Rattle.laws.specs.Faults.{Fault, in_rows, refuse}
 use Rattle.laws.specs.Opening.{most, limit, span}
@@ -22,10 +22,6 @@ grid-guarded o s ms h =
     let small : leb (nonzeros s.lens) limit ≡ true = le-leb _ _ h.small in
     let far : leb (span s.lens s.strides) limit ≡ true = le-leb _ _ (sound_span s h) in
     rw (rank, small, far)
-
-not-false : (b : Bool) → not b ≡ false → b ≡ true
-not-false true e = refl
-not-false false e = let z : ◌≡◌ {A = ℕ} 0 1 = cc in absurd (omega arith)
 
 -- what the checks of the new lengths give
 record Resized (ls ms : List ℕ) (n : ℕ) : Type 0 where
@@ -51,11 +47,8 @@ ready ls zs ms n g e some =
     let rank = and_parts (eqb (length ls) (length zs)) (leb (nonzeros ls) limit && leb (span ls zs) limit) (sym g) in
     let limits = and_parts (leb (nonzeros ls) limit) (leb (span ls zs) limit) rank.1 in
     let new = resized_ok ls ms n e in
-    all-ready ls zs ms (eqb-true _ _ rank.0) (leb-true _ _ limits.0) (leb-true _ _ limits.1) (eqb-true _ _ (not-false _ new.same)) (above n (product ms) new.is some)
-  where
-    above : (n m : ℕ) → n ≡ m → (n ≡ 0 → ⊥) → 0 < m
-    above zero m e some = absurd (some refl)
-    above (suc n) m e some = omega arith
+    let size = new.is in
+    all-ready ls zs ms (eqb-true _ _ rank.0) (leb-true _ _ limits.0) (leb-true _ _ limits.1) (eqb-true _ _ (not-false _ new.same)) (omega arith)
 
 signed-zeros : (n : ℕ) → signed (replicate n 0) ≡ replicate n (pos 0)
 signed-zeros zero = refl

@@ -1,7 +1,5 @@
 -- Reshaping over rows: orders as the rules name them, and the old rows that are taken.
-use Rattle.std.specs.Prelude.{ℕ, Bool, not, ◌&&◌, List, length, ℤ, Some, None, Ok, Option, Result, ◌==◌, nat_le, nat_lt}
-use Rattle.std.specs.Int.{w64}
-use Rattle.std.proofs.Common.{to_z}
+use Rattle.std.specs.Prelude.{ℕ, Bool, not, ◌&&◌, List, length, ℤ, Ok, Result, ◌==◌, nat_le, nat_lt}
 use Rattle.laws.specs.Lengths.{product, nonzeros}
 use Rattle.laws.specs.Faults.{Fault, in_rows, refuse}
 use Rattle.laws.specs.Opening.{most, limit, span}
@@ -14,11 +12,6 @@ use Rattle.dimension.specs.declared.order.Order.TheVariants.{RowMajor, ColumnMaj
 abbrev pub order_of : Order → rules.Order
 order_of RowMajor = rules.RowMajor
 order_of ColumnMajor = rules.ColumnMajor
-
--- a word as a stride, if there is one
-abbrev pub reads : Option ℕ → Option ℤ
-reads None = None
-reads (Some w) = Some (to_z w64 w)
 
 -- whether lengths and strides are such as every grid has: of one rank, and the product of the nonzero lengths and the reach within the limit
 abbrev pub gridlike : List ℕ → List ℤ → Bool

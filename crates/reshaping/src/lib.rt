@@ -3,6 +3,7 @@
 
 mod groups;
 mod reshape;
+mod turn;
 mod walk;
 
 pub use reshape::reshape_dim;

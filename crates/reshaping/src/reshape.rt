@@ -18,13 +18,8 @@ const LIMIT: usize = 1_048_576;
 fn gridlike<F: Dimension, S: Dimension>(from: &F, strides: &S) -> bool
     ensures { result ≡ gridlike (F.Dimension.words from.now) (signed (S.Dimension.words strides.now)) }
 {
-    if !lengths_within(from, LIMIT) {
-        return false;
-    }
-    match max_abs_offset_check_overflow(1, from, strides) {
-        Ok(far) => far <= LIMIT,
-        Err(_) => false,
-    }
+    lengths_within(from, LIMIT)
+        && max_abs_offset_check_overflow(1, from, strides).is_ok_and(|far| far <= LIMIT)
 }
 
 /// The size of the new lengths, which is that of the old ones.
@@ -55,14 +50,12 @@ fn regrouped_in<F: Dimension, S: Dimension, E: Dimension>(
 {
     match order {
         Order::RowMajor => {
-            let mut out = IxDyn::copy_of(to);
-            reshape_dim_c(from, strides, to, &mut out)?;
-            Ok(out)
+            let out = reshape_dim_c(from, strides, to)?;
+            Ok(IxDyn::copy_of(&out))
         }
         Order::ColumnMajor => {
-            let mut out = Reverse(IxDyn::copy_of(to));
-            reshape_dim_c(&Reverse(*from), &Reverse(*strides), &Reverse(*to), &mut out)?;
-            Ok(out.0)
+            let out = reshape_dim_c(&Reverse(*from), &Reverse(*strides), &Reverse(*to))?;
+            Ok(IxDyn::copy_of(&out.0))
         }
     }
 }

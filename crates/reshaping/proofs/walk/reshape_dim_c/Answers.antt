@@ -1,55 +1,30 @@
-use Rattle.std.proofs.Common.{◌≡◌, ◌-◌, ◌≤◌, ◌⊎◌, ◌++◌, length, take, replicate, pos, Ok, sym, ap, ◌∙◌, inl, inr, arith, w64, to_z}
+use Rattle.std.proofs.Common.{◌≡◌, ◌-◌, ◌≤◌, ◌⊎◌, ◌++◌, length, take, replicate, pos, Ok, refl, sym, ap, ◌∙◌, inl, inr, arith, w64, to_z}
 use Rattle.std.proofs.lemmas.List.{length-map}
 use Rattle.std.proofs.lemmas.Result.{err_from_is_err_and}
 use Rattle.laws.specs.Strides.{signed}
 use Rattle.laws.specs.ReshapingSteps.{Step}
-use Rattle.dimension.specs.Errors.{row_fault}
-use Rattle.laws.proofs.ReshapingGroupsProducts.{near-length}
 use Rattle.laws.proofs.ReshapingWalkLoop.{walking_start, walking_on, walking_refused, walking_done}
 use Rattle.reshaping.proofs.walk.reshape_dim_c.Goals as goal
 use Rattle.reshaping.proofs.walk.reshape_dim_c.Goals.{then-loop-fi-test+else-ti-ndim, else-loop-fi-test}
 
 pub loop-fi-init : goal.loop-fi-init
-loop-fi-init g c = (
-  walking_start (g.F.Dimension.words c.args.from.now) (signed (g.S.Dimension.words c.args.strides.now)) (g.E.Dimension.words c.args.to.now) (signed (g.T.Dimension.words c.args.out.now)) c.requires.ready,
-  c.requires.room,
-)
+loop-fi-init g c = (walking_start _ _ _ _ c.requires, refl)
 
-pub turn-requires : goal.turn-requires
-turn-requires g c = record { old = omega arith; new = omega arith; even = sym (length-map (g.S.Dimension.words c.args.strides.now) (λ w. to_z w64 w)) ∙ near-length (g.F.Dimension.words c.args.from.now) (signed (g.S.Dimension.words c.args.strides.now)) c.requires.ready.near; room = c.loop-fi.invariant.1; ready = c.loop-fi.invariant.0.ready }
-
-pub returns-in_err-old : goal.returns-in_err-old
-returns-in_err-old g c =
+pub returns-in_err-olds : goal.returns-in_err-olds
+returns-in_err-olds g c =
     let p = err_from_is_err_and c.from_residual.result c.from_residual.ensures.1 in
-    rw (p.1, p.2) (walking_refused (g.F.Dimension.words c.args.from.now) (signed (g.S.Dimension.words c.args.strides.now)) (g.E.Dimension.words c.args.to.now) c.loop-fi.fi c.loop-fi.ti
-    (signed (g.T.Dimension.words c.loop-fi.out)) c.loop-fi.invariant.0 (row_fault c.in_err-old.field-0.0) (omega arith) c.in_err-old.ensures)
-
-pub loop-fi-smaller : goal.loop-fi-smaller
-loop-fi-smaller g c =
-    let s : Step (g.F.Dimension.words c.args.from.now) (signed (g.S.Dimension.words c.args.strides.now)) (g.E.Dimension.words c.args.to.now) c.loop-fi.fi c.loop-fi.ti
-    (signed (g.T.Dimension.words c.loop-fi.out)) (signed (g.T.Dimension.words c.turn.new.out)) c.in_ok-old.old c.in_ok-old.new = c.in_ok-old.ensures in
-    let on = s.on in
-    let old_in = s.old_in in
-    let new_in = s.new_in in
-    omega arith
+    rw (p.1, p.2) (walking_refused _ _ _ _ _ _ c.loop-fi.invariant.0 _ (omega arith) c.in_err-olds.ensures)
 
 pub loop-fi-preserved : goal.loop-fi-preserved
 loop-fi-preserved g c =
-    let s : Step (g.F.Dimension.words c.args.from.now) (signed (g.S.Dimension.words c.args.strides.now)) (g.E.Dimension.words c.args.to.now) c.loop-fi.fi c.loop-fi.ti
-    (signed (g.T.Dimension.words c.loop-fi.out)) (signed (g.T.Dimension.words c.turn.new.out)) c.in_ok-old.old c.in_ok-old.new = c.in_ok-old.ensures in (
-      walking_on (g.F.Dimension.words c.args.from.now) (signed (g.S.Dimension.words c.args.strides.now)) (g.E.Dimension.words c.args.to.now) c.loop-fi.fi c.loop-fi.ti
-          (signed (g.T.Dimension.words c.loop-fi.out)) c.loop-fi.invariant.0 (signed (g.T.Dimension.words c.turn.new.out)) c.in_ok-old.old c.in_ok-old.new (omega arith) (omega arith) s,
-      sym (length-map (g.T.Dimension.words c.turn.new.out) (λ w. to_z w64 w)) ∙ s.long ∙ length-map (g.T.Dimension.words c.loop-fi.out) (λ w. to_z w64 w) ∙ c.loop-fi.invariant.1,
-    )
-
-pub fill_ones-requires : goal.fill_ones-requires
-fill_ones-requires g c = let new_in = c.loop-fi.invariant.0.new_in in let room = c.loop-fi.invariant.1 in omega arith
+    let s : Step _ _ _ _ _ _ _ _ _ = c.in_ok-olds.ensures in
+    (walking_on _ _ _ _ _ _ c.loop-fi.invariant.0 _ _ _ (omega arith) (omega arith) s, simp length-map at s.long ∙ c.loop-fi.invariant.1)
 
 pub returns : goal.returns
 returns g c =
     let ls = g.F.Dimension.words c.args.from.now in
     let ms = g.E.Dimension.words c.args.to.now in
-    let out = g.T.Dimension.words c.loop-fi.out in
+    let out = g.E.Dimension.words c.loop-fi.out in
     let i = c.loop-fi.fi in
     let j = c.loop-fi.ti in
     let long : length (signed out) ≡ length out = length-map out (λ w. to_z w64 w) in
