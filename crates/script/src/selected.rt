@@ -35,13 +35,11 @@ pub fn write_selection<W: fmt::Write, S: SliceArg>(
     sel: &S,
 ) -> fmt::Result {
     f.write_str("[")?;
-    for place in 0..sel.len() {
+    for (place, elem) in sel.iter().enumerate() {
         if place > 0 {
             f.write_str(",")?;
         }
-        if let Some(elem) = sel.elem(place) {
-            write_elem(f, elem)?;
-        }
+        write_elem(f, elem)?;
     }
     f.write_str("]")
 }

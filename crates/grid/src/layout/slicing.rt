@@ -128,10 +128,7 @@ fn cut_elems<S: SliceArg>(grid: &Layout, sel: &S) -> Result<Cut, SliceFault>
         lens: row,
         strides: row,
     };
-    for place in 0..sel.len() {
-        let Some(elem) = sel.elem(place) else {
-            return Ok(cut);
-        };
+    for (place, elem) in sel.iter().enumerate() {
         cut = cut_elem(grid, cut, place, elem)?;
     }
     Ok(cut)
