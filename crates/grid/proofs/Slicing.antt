@@ -13,7 +13,7 @@ use Rattle.laws.proofs.Limits.{stride_small}
 use Rattle.laws.proofs.Resolving.{entries-few}
 use Rattle.laws.proofs.Words.{length-signed, stride_read}
 use Rattle.laws.proofs.Slicing.{slicing_sound}
-use Rattle.laws.proofs.SlicingLoop.{Cutting, cutting_none, cutting-all, cutting_passed, cutting_word, cutting_new, cutting_range, cutting-index, axis_left, range_outside, range_step, index-outside}
+use Rattle.laws.proofs.SlicingLoop.{Cutting, cutting_word, cutting_new, cutting_range, cutting-index, axis_left, range_outside, range_step, index-outside}
 use Rattle.dimension.specs.declared.dynindeximpl.IxDyn.{IxDyn}
 use Rattle.dimension.specs.Rows.{listed, pushed}
 use Rattle.selection.specs.Resolving.{ranged, indexed, Bounded}
@@ -192,26 +192,6 @@ module _ (l : Layout) (es : List Elem) (k : ℕ) (c : Cut) (u : Under (seen l) e
             | inl t ↦ index-outside s es k c.axis (pos c.start) (listed c.lens) (signed (listed c.strides)) l.paired u.cutting left_index i split t ∙ ap Some (err_now (outside_index len i) _ f _ t e)
             | inr o ↦ absurd (err_never f _ (err_later (outside_index len i) _ f _ o e))
           ]
-
--- ---- at the start, and at the end
-
-pub under_none : (l : Layout) (es : List Elem) (c : Cut) → in_count es ≡ length (seen l).lens → out_count es ≤ 8 → c.axis ≡ 0 → c.start ≡ l.start → listed c.lens ≡ [] → listed c.strides ≡ [] → Under (seen l) es 0 c
-under_none l es c takes leaves p q r t = record {
-  cutting =
-      subst (λ (x : ℕ). Cutting (seen l) es 0 x (pos c.start) (listed c.lens) (signed (listed c.strides))) (sym p)
-      (subst (λ (x : ℕ). Cutting (seen l) es 0 0 (pos x) (listed c.lens) (signed (listed c.strides))) (sym q)
-      (subst (λ (x : List ℕ). Cutting (seen l) es 0 0 (pos l.start) x (signed (listed c.strides))) (sym r)
-      (subst (λ (x : List ℕ). Cutting (seen l) es 0 0 (pos l.start) [] (signed x)) (sym t) (cutting_none (seen l) es (sound l) takes))));
-  within = omega (arith, p);
-  room = omega (arith, leaves, ap length r);
-  paired = ap length t ∙ sym (ap length r);
-}
-
-module _ (l : Layout) (es : List Elem) (k : ℕ) (c : Cut) (u : Under (seen l) es k c) (h : length es ≤ k) where
-  pub under_all : Ok (leaving l.cells c) ≡ unless (first_fault 0 es (seen l).lens) (sliced es (seen l))
-  under_all =
-      ap (λ (s : Seen). Ok s) (cutting-all (seen l) es k c.axis (pos c.start) (listed c.lens) (signed (listed c.strides)) l.paired u.cutting h)
-      ∙ sym (ap (λ (o : Option Fault). unless o (sliced es (seen l))) (cutting_passed (seen l) es k c.axis (pos c.start) (listed c.lens) (signed (listed c.strides)) l.paired u.cutting h))
 
 -- ---- a stride that is multiplied is that of an axis longer than 1
 

@@ -1,32 +1,11 @@
--- Lists of elements read by place: each seen through a function, from a place on, and one among equal ones.
-use Rattle.std.proofs.Common.{◌≡◌, ℕ, zero, suc, ◌+◌, ◌/◌, ◌%◌, ◌<◌, ◌≤◌, min, ◌≢◌, List, ◌∷◌, map, length, get_or, take, drop, set, replicate, ℤ, Some, None, Option, sym, refl, ap, ◌∙◌, inl, inr, mod-lt, div-add-mod', arith}
+-- Lists of elements read by place: from a place on, and one among equal ones.
+use Rattle.std.proofs.Common.{◌≡◌, ℕ, zero, suc, ◌+◌, ◌/◌, ◌%◌, ◌<◌, min, List, ◌∷◌, length, get_or, drop, set, replicate, ℤ, Some, None, Option, sym, refl, ap, ◌∙◌, inl, inr, mod-lt, div-add-mod', arith}
 use native.Mathlib.Nat.{div-eq_of_lt-le}
 use Rattle.std.specs.List.{slice_get}
-use Rattle.std.proofs.lemmas.List.{length-map, length-take-le, length-take, length-set, length-replicate, get_or-map, get_or-take, get_or-replicate, get_or-set_same, get_or-set_other, drop_more}
-use Rattle.std.proofs.lemmas.Option.{slice_get-get_or, slice_get_past}
+use Rattle.std.proofs.lemmas.List.{drop_more}
+use Rattle.std.proofs.lemmas.Option.{slice_get-get_or}
 use Rattle.std.proofs.lemmas.Bool.{cases_eq}
 use Rattle.laws.specs.Elements.{Slice, in_count, out_count, rounded_up}
-
-module _ {X Y : Type 0} (f : X → Y) where
-  pub nth-map : (xs : List X) (k : ℕ) (d : X) → k < length xs → Some (f (get_or xs k d)) ≡ slice_get (map f xs) k
-  nth-map xs k d h =
-      let long = length-map xs f in
-      sym (slice_get-get_or (map f xs) k (f d) (omega arith) ∙ ap Some (get_or-map f xs k d (f d) h))
-
-  pub nth-map_past : (xs : List X) (k : ℕ) → length xs ≤ k → None ≡ slice_get (map f xs) k
-  nth-map_past xs k h = let long = length-map xs f in sym (slice_get_past (map f xs) k (omega arith))
-
-  -- the same for a counted front
-  pub nth-map_front : (xs : List X) (n k : ℕ) (d : X) → n ≤ length xs → k < n → Some (f (get_or xs k d)) ≡ slice_get (map f (take n xs)) k
-  nth-map_front xs n k d h l =
-      let short = length-take-le n xs h in
-      sym (ap (λ x. Some (f x)) (get_or-take n xs k d l)) ∙ nth-map (take n xs) k d (omega arith)
-
-  pub nth-map_front_past : (xs : List X) (n k : ℕ) → n ≤ k → None ≡ slice_get (map f (take n xs)) k
-  nth-map_front_past xs n k h = let short = length-take n xs in nth-map_past (take n xs) k (omega arith)
-
-  pub length-map_front : (xs : List X) (n : ℕ) → n ≤ length xs → n ≡ length (map f (take n xs))
-  length-map_front xs n h = sym (length-map (take n xs) f ∙ length-take-le n xs h)
 
 -- what is left of a list from the element at a place on
 pub drop_at : {X : Type 0} (xs : List X) (k : ℕ) (x : X) → k < length xs → Some x ≡ slice_get xs k → drop k xs ≡ x ∷ drop (k + 1) xs
@@ -38,31 +17,6 @@ drop_at xs k x h e =
 -- a place within a list has an element
 pub never_past : {X : Type 0} (xs : List X) (k : ℕ) (d : X) → k < length xs → None ≡ slice_get xs k → ⊥
 never_past xs k d h e = let told = slice_get-get_or xs k d h in let z : ◌≡◌ {A = ℕ} 0 1 = cc in omega arith
-
--- one element y among n that are x
-module _ {X : Type 0} (n axis : ℕ) (x y : X) where
-  abbrev among : List X
-  among = set (replicate n x) axis y
-
-  long : length among ≡ n
-  long = length-set (replicate n x) axis y ∙ length-replicate n x
-
-  pub length_among : n ≡ length (set (replicate n x) axis y)
-  length_among = sym long
-
-  pub nth_among : (k : ℕ) → k < n → k ≡ axis → Some y ≡ slice_get (set (replicate n x) axis y) k
-  nth_among k h e =
-      let all = length-replicate n x in
-      let size = long in
-      sym (slice_get-get_or among k x (omega arith) ∙ ap (λ i. Some (get_or among i x)) e ∙ ap Some (get_or-set_same (replicate n x) axis y x (omega arith)))
-
-  pub nth_among_other : (k : ℕ) → k < n → k ≢ axis → Some x ≡ slice_get (set (replicate n x) axis y) k
-  nth_among_other k h ne =
-      let size = long in
-      sym (slice_get-get_or among k x (omega arith) ∙ ap Some (get_or-set_other (replicate n x) axis k y x ne ∙ get_or-replicate n k x x h))
-
-  pub nth_among_past : (k : ℕ) → n ≤ k → None ≡ slice_get (set (replicate n x) axis y) k
-  nth_among_past k h = let size = long in sym (slice_get_past among k (omega arith))
 
 -- a range among n ranges: each takes an axis and leaves one
 module _ (a : ℤ) (b : Option ℤ) (c : ℤ) where
