@@ -7,8 +7,9 @@ ghost use Rattle.grid.specs.declared.error.GridCall.TheVariants.{Fill};
 ghost use Rattle.grid.specs.Errors.{answered, calling};
 ghost use Rattle.grid.specs.Layouts.{seen};
 
-use crate::walk::{cell_of, first_index, next_for};
-use grid::{Cause, GridCall, GridFault, Layout};
+use crate::lent::check_lent;
+use crate::walk::{first_index, next_for};
+use grid::{GridCall, GridFault, Layout};
 use selection::SliceArg;
 
 /// Gives the grid's cells, and no others, one value.
@@ -17,16 +18,11 @@ pub fn fill<T: Copy>(layout: &Layout, cells: &mut [T], value: T) -> Result<(), G
     ensures after { cells.new ≡ filled (seen layout.now) value cells.old }
     ensures law { MatchResult result (λ _. Filled (seen layout.now) value cells.old cells.new) (λ _. cells.new ≡ cells.old) }
 {
-    if cells.len() != layout.cell_count() {
-        return Err(GridFault {
-            cause: Cause::OutOfBounds,
-            call: GridCall::Fill,
-        });
-    }
+    check_lent(layout, cells.len(), GridCall::Fill)?;
     let lens = layout.lens();
     let mut next = first_index(&lens);
     while let Some(index) = next {
-        let at = cell_of(layout, &index);
+        let at = layout.stride_offset(index.as_slice());
         cells[at] = value;
         next = next_for(&lens, index);
     }
@@ -44,17 +40,10 @@ pub fn fill_selection<T: Copy, S: SliceArg>(
     ensures after { cells.new ≡ posted (S.SliceArg.elems sel.now) (seen layout.now) value cells.old }
     ensures law { MatchResult result (λ _. Filled (sliced (S.SliceArg.elems sel.now) (seen layout.now)) value cells.old cells.new) (λ _. cells.new ≡ cells.old) }
 {
-    if cells.len() != layout.cell_count() {
-        return Err(GridFault {
-            cause: Cause::OutOfBounds,
-            call: GridCall::Fill,
-        });
-    }
-    match layout.slice_move(sel) {
-        Ok(slice) => fill(&slice, cells, value),
-        Err(fault) => Err(GridFault {
-            cause: fault.cause,
-            call: GridCall::Fill,
-        }),
-    }
+    check_lent(layout, cells.len(), GridCall::Fill)?;
+    let slice = layout.slice_move(sel).map_err(|fault| GridFault {
+        call: GridCall::Fill,
+        ..fault
+    })?;
+    fill(&slice, cells, value)
 }

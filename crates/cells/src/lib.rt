@@ -2,6 +2,7 @@
 #![tactic(auto)]
 
 mod filling;
+mod lent;
 mod pay;
 mod reader;
 mod walk;

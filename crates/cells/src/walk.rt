@@ -1,25 +1,18 @@
-ghost use Rattle.std.specs.Prelude.{◌≡◌, ◌+◌, ◌<◌, pos, MatchOption};
+ghost use Rattle.std.specs.Prelude.{◌≡◌, ◌+◌, MatchOption};
 ghost use Rattle.laws.specs.Lengths.{product};
 ghost use Rattle.laws.specs.Tuples.{Within, place};
-ghost use Rattle.laws.specs.Space.{cell};
 ghost use Rattle.dimension.specs.Rows.{listed};
-ghost use Rattle.grid.specs.Layouts.{seen};
 
-use dimension::{Dimension, IxDyn, stride_offset, word_at};
-use grid::Layout;
+use dimension::{Dimension, IxDyn, is_empty, word_at};
 
 /// The first tuple within the lengths, if there is one.
-pub(crate) fn first_index<D: Dimension>(dim: &D) -> Option<D>
-    ensures { MatchOption result (product (D.Dimension.words dim.now) ≡ 0) (λ ix. Within (D.Dimension.words ix) (D.Dimension.words dim.now) × (place (D.Dimension.words ix) (D.Dimension.words dim.now) ≡ 0)) }
+pub(crate) fn first_index(dim: &IxDyn) -> Option<IxDyn>
+    ensures { MatchOption result (product (listed dim.now) ≡ 0) (λ ix. Within (listed ix) (listed dim.now) × (place (listed ix) (listed dim.now) ≡ 0)) }
 {
-    let mut index = *dim;
-    for axis in 0..dim.ndim() {
-        if word_at(dim, axis) == 0 {
-            return None;
-        }
-        let _ = index.set(axis, 0);
+    if is_empty(dim) {
+        return None;
     }
-    Some(index)
+    IxDyn::zeros(dim.ndim()).ok()
 }
 
 /// The tuple after another one, the last axis fastest, if there is one.
@@ -39,19 +32,4 @@ pub(crate) fn next_for<D: Dimension>(dim: &D, index: D) -> Option<D>
         }
     }
     None
-}
-
-/// The cell of a tuple within the lengths.
-pub(crate) fn cell_of(layout: &Layout, index: &IxDyn) -> usize
-    requires { Within (listed index.now) (seen layout.now).lens }
-    ensures here { cell (seen layout.now) (listed index.now) ≡ pos result }
-    ensures within { result < (seen layout.now).cells }
-{
-    let strides = layout.strides();
-    let mut at = layout.start();
-    for axis in 0..index.ndim() {
-        let stride = word_at(&strides, axis);
-        at = stride_offset(at, word_at(index, axis), stride);
-    }
-    at
 }

@@ -3,20 +3,12 @@ ghost use Rattle.std.specs.Int.{w64};
 ghost use Rattle.std.specs.Option.{option_map};
 ghost use Rattle.std.proofs.Common.{to_z};
 ghost use Rattle.laws.specs.Strides.{signed};
-ghost use Rattle.laws.specs.Merging.{same_stride};
 ghost use Rattle.laws.specs.Reshaping.{linked, group};
 ghost use Rattle.laws.specs.ReshapingSteps.{ends, quotients};
 ghost use Rattle.dimension.specs.Errors.{answered};
 
 use crate::turn::Turn;
-use dimension::{Dimension, RowFault, word_at};
-
-/// Whether a stride is a length times another stride.
-fn in_step(stride: usize, length: usize, other: usize) -> bool
-    ensures { result ≡ same_stride (to_z w64 stride) (pos length *ℤ to_z w64 other) }
-{
-    stride.cast_signed() as i128 == length as i128 * other.cast_signed() as i128
-}
+use dimension::{Dimension, RowFault, in_step, word_at};
 
 /// The stride to which the next axis of an old group is held, or none where the two axes do not lie in step.
 fn linked(before: usize, length: usize, stride: usize) -> Option<usize>

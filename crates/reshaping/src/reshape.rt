@@ -8,11 +8,9 @@ ghost use Rattle.reshaping.specs.Reshapes.{order_of, gridlike, resized, guarded}
 
 use crate::walk::reshape_dim_c;
 use dimension::{
-    Dimension, IxDyn, Order, Reverse, RowFault, lengths_within, max_abs_offset_check_overflow,
-    size_of_shape_checked,
+    Dimension, IxDyn, LIMIT, Order, Reverse, RowFault, lengths_within,
+    max_abs_offset_check_overflow, size_of_shape_checked,
 };
-
-const LIMIT: usize = 1_048_576;
 
 /// Whether lengths and strides are such as every grid has.
 fn gridlike<F: Dimension, S: Dimension>(from: &F, strides: &S) -> bool

@@ -5,6 +5,7 @@ ghost use Rattle.selection.specs.Resolving.{placed, placed_end, spanned, Bounded
 
 use crate::error::SliceFault;
 use crate::slice::Slice;
+use dimension::LIMIT;
 
 /// Where a range begins and stops on its axis, and in which steps it goes.
 #[derive(Clone, Copy, PartialEq, Eq, Debug)]
@@ -70,7 +71,7 @@ fn is_bad_step(step: isize) -> bool
     ensures { result ≡ bad_step step }
 {
     let size = step.unsigned_abs();
-    size == 0 || size > 1_048_576
+    size == 0 || size > LIMIT
 }
 
 /// Where the range at a place of a selection begins and stops on its axis.

@@ -6,7 +6,8 @@ ghost use Rattle.grid.specs.Errors.{answered, calling};
 ghost use Rattle.grid.specs.Layouts.{seen};
 
 use super::Reader;
-use grid::{Cause, GridCall, GridFault, Layout};
+use crate::lent::check_lent;
+use grid::{GridCall, GridFault, Layout};
 
 /// The value at a tuple of a grid over these cells.
 fn read_at<T: Copy>(cells: &[T], layout: &Layout, index: &[usize]) -> Option<T>
@@ -14,10 +15,8 @@ fn read_at<T: Copy>(cells: &[T], layout: &Layout, index: &[usize]) -> Option<T>
     ensures answer { result ≡ reading (seen layout.now) cells.now index.now }
     ensures law { Read (seen layout.now) cells.now index.now result }
 {
-    match layout.stride_offset_checked(index) {
-        Some(at) => Some(cells[at]),
-        None => None,
-    }
+    let at = layout.stride_offset_checked(index)?;
+    Some(cells[at])
 }
 
 impl<'a, T: Copy> Reader<'a, T> {
@@ -37,12 +36,7 @@ impl<'a, T: Copy> Reader<'a, T> {
         ensures answer { answered (λ u. u) result ≡ calling Reading (lent (seen layout.now) (length cells.now)) }
         ensures after { MatchResult result (λ _. (self.new.cells.now ≡ cells.now) × (self.new.layout ≡ layout.now)) (λ _. self.new ≡ self.old) }
     {
-        if cells.len() != layout.cell_count() {
-            return Err(GridFault {
-                cause: Cause::OutOfBounds,
-                call: GridCall::Read,
-            });
-        }
+        check_lent(layout, cells.len(), GridCall::Read)?;
         *self = Reader {
             cells,
             layout: *layout,

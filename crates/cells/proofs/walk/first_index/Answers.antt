@@ -1,31 +1,25 @@
-use Rattle.std.proofs.Common.{◌≡◌, ◌+◌, ◌<◌, length, get_or, take, set, refl, ap, ◌∙◌, arith, length-set, below_more}
-use Rattle.laws.proofs.Tuples.{product_none}
-use Rattle.laws.proofs.Walks.{zeros_more, first-all}
+use Rattle.std.proofs.Common.{◌≡◌, false, ltb, length, Ok, replicate, Option, sym, ap, ◌∙◌, subst, arith, MatchOption}
+use Rattle.std.proofs.lemmas.Bool.{le-ltb}
+use Rattle.laws.specs.Lengths.{product}
+use Rattle.laws.specs.Tuples.{Within, place}
+use Rattle.laws.specs.Faults.{in_rows, refuse}
+use Rattle.laws.proofs.Zeros.{some-zero-product}
+use Rattle.dimension.specs.declared.dynindeximpl.IxDyn.{IxDyn}
+use Rattle.dimension.specs.Errors.{answered}
+use Rattle.dimension.specs.Rows.{listed, listed_owed}
+use Rattle.cells.proofs.Walking.{first_zeros}
 use Rattle.cells.proofs.walk.first_index.Goals as goal
 
-pub loop-axis-init : goal.loop-axis-init
-loop-axis-init g c = (refl, refl, λ j h. absurd (omega arith))
-
-pub returns-then-word_at-eq0 : goal.returns-then-word_at-eq0
-returns-then-word_at-eq0 g c =
-    let ls = g.D.Dimension.words c.args.dim.now in
-    product_none ls c.loop-axis.axis (omega arith) (omega arith)
-
-pub loop-axis-preserved : goal.loop-axis-preserved
-loop-axis-preserved g c =
-    let ls = g.D.Dimension.words c.args.dim.now in
-    let ix = g.D.Dimension.words c.loop-axis.index in
-    let i = c.loop-axis.axis in
-    let inv = c.loop-axis.invariant in
-    let after : g.D.Dimension.words c.set.new.self ≡ set ix i 0 = c.set.ensures.after in (
-      ap (take (i + 1)) after ∙ zeros_more ix i inv.0 (omega (arith, inv.1)),
-      ap length after ∙ length-set ix i 0 ∙ inv.1,
-      below_more (λ j. 0 < get_or ls j 0) i inv.2 (omega arith),
-    )
+pub returns-then-is_empty : goal.returns-then-is_empty
+returns-then-is_empty c = some-zero-product (listed c.args.dim.now) (sym c.if-is_empty.ensures)
 
 pub returns : goal.returns
-returns g c =
-    let ls = g.D.Dimension.words c.args.dim.now in
-    let ix = g.D.Dimension.words c.loop-axis.index in
-    let inv = c.loop-axis.invariant in
-    first-all ix ls c.loop-axis.axis inv.0 (omega (arith, inv.1)) (omega arith) inv.2
+returns c =
+    let ls = listed c.args.dim.now in
+    let few = (listed_owed c.args.dim.now).few in
+    let n = c.ndim.result in
+    let fit : ltb 8 n ≡ false = le-ltb 8 n (omega arith) in
+    let made : answered listed c.zeros.result ≡ Ok (replicate (length ls) 0) =
+    c.zeros.ensures ∙ ap (λ b. refuse b (in_rows 11) (Ok (replicate n 0))) fit ∙ ap (λ m. Ok (replicate m 0)) c.ndim.ensures in
+    subst (λ (o : Option IxDyn). MatchOption o (product ls ≡ 0) (λ ix. Within (listed ix) ls × (place (listed ix) ls ≡ 0)))
+    (sym c.ok.ensures.value) (first_zeros ls c.zeros.result (sym c.if-is_empty.ensures) made)
