@@ -1,12 +1,24 @@
 ghost use Rattle.std.specs.Prelude.{◌≡◌};
 ghost use Rattle.dimension.specs.Errors.{layer_of, row_number};
 
+use std::fmt;
+
 /// The layer where a fault arose.
 #[derive(Clone, Copy, PartialEq, Eq, Debug)]
 pub enum Layer {
     Rows,
     Selection,
     Grid,
+}
+
+impl fmt::Display for Layer {
+    fn fmt<W: fmt::Write>(&self, f: &mut fmt::Formatter<W>) -> fmt::Result {
+        f.write_str(match self {
+            Layer::Rows => "rows",
+            Layer::Selection => "selection",
+            Layer::Grid => "grid",
+        })
+    }
 }
 
 /// Why a call on rows is refused; no such fault names a place.

@@ -5,6 +5,7 @@ ghost use Rattle.grid.specs.Errors.{noted, told};
 
 use dimension::{Layer, RowFault};
 use selection::SliceFault;
+use std::fmt;
 
 /// The calls on a grid and on its cells.
 #[derive(Clone, Copy, PartialEq, Eq, Debug)]
@@ -16,6 +17,20 @@ pub enum GridCall {
     Collapse,
     Merge,
     Reshape,
+}
+
+impl fmt::Display for GridCall {
+    fn fmt<W: fmt::Write>(&self, f: &mut fmt::Formatter<W>) -> fmt::Result {
+        f.write_str(match self {
+            GridCall::Open => "open",
+            GridCall::Fill => "fill",
+            GridCall::Read => "read",
+            GridCall::Slice => "slice",
+            GridCall::Collapse => "collapse",
+            GridCall::Merge => "merge",
+            GridCall::Reshape => "reshape",
+        })
+    }
 }
 
 /// Why a grid call is refused: a fault of the rows or of a selection, whole, or one of the grid's own.

@@ -1,5 +1,5 @@
 use dimension::Layer;
-use grid::{GridCall, GridFault};
+use grid::GridFault;
 use script::{Expected, What};
 use selection::SliceFault;
 use std::alloc::AllocError;
@@ -13,34 +13,6 @@ pub(crate) enum Fault {
     Info(SliceFault),
 }
 
-impl Fault {
-    /// The name in an answer of the call that gave the fault.
-    fn call(&self) -> &'static str {
-        match self {
-            Fault::Grid(fault) => match fault.call {
-                GridCall::Open => "open",
-                GridCall::Fill => "fill",
-                GridCall::Read => "read",
-                GridCall::Slice => "slice",
-                GridCall::Collapse => "collapse",
-                GridCall::Merge => "merge",
-                GridCall::Reshape => "reshape",
-            },
-            Fault::Rule(_) => "rule",
-            Fault::Info(_) => "info",
-        }
-    }
-}
-
-/// The layer's name in an answer.
-fn layer_name(layer: Layer) -> &'static str {
-    match layer {
-        Layer::Rows => "rows",
-        Layer::Selection => "selection",
-        Layer::Grid => "grid",
-    }
-}
-
 impl fmt::Display for Fault {
     fn fmt<W: fmt::Write>(&self, f: &mut fmt::Formatter<W>) -> fmt::Result {
         let (number, layer, place) = match self {
@@ -49,11 +21,15 @@ impl fmt::Display for Fault {
                 (fault.number(), Layer::Selection, fault.place())
             }
         };
-        let layer = layer_name(layer);
-        let call = self.call();
+        write!(f, "fault {number} {layer} ")?;
         match place {
-            Some(place) => write!(f, "fault {number} {layer} {place} {call} -"),
-            None => write!(f, "fault {number} {layer} - {call} -"),
+            Some(place) => write!(f, "{place} ")?,
+            None => f.write_str("- ")?,
+        }
+        match self {
+            Fault::Grid(fault) => write!(f, "{} -", fault.call),
+            Fault::Rule(_) => f.write_str("rule -"),
+            Fault::Info(_) => f.write_str("info -"),
         }
     }
 }

@@ -1,7 +1,6 @@
 use crate::cell::Cell;
 use crate::lent::Lent;
 use crate::posting::{Posting, grid_size};
-use dimension::{Dimension, word_at};
 use grid::Layout;
 use std::alloc::{AllocError, Global};
 use std::fmt;
@@ -85,9 +84,9 @@ fn write_grid<W: fmt::Write>(f: &mut fmt::Formatter<W>, layout: &Layout) -> fmt:
         "grid      {size} cells, opened over {count}, start {start}"
     )?;
     writeln!(f, "          axis      length      stride")?;
-    for axis in 0..lens.ndim() {
-        let length = word_at(&lens, axis);
-        let stride = word_at(&strides, axis).cast_signed();
+    let axes = lens.as_slice().iter().zip(strides.as_slice());
+    for (axis, (length, word)) in axes.enumerate() {
+        let stride = word.cast_signed();
         writeln!(f, "          {axis:>4}{length:>12}{stride:>12}")?;
     }
     Ok(())

@@ -8,7 +8,7 @@ use crate::lent::Lent;
 use crate::posting::Posting;
 use crate::refusal::Refusal;
 use crate::report::Report;
-use grid::{Answer as Verdict, Layout};
+use grid::{Layout, Outcome};
 use script::{Change, Command, Expected, Filling, Kind, Marked, Opening, What};
 use std::alloc::Global;
 
@@ -99,10 +99,9 @@ impl Session {
         // The note's place is had first, so that a change is never made and not noted.
         self.posted.reserve(1)?;
         let mut layout = before;
-        match changed(&mut layout, &change) {
-            Verdict::Refused(fault) => Err(Refusal::from(fault)),
-            Verdict::No => Ok(Answer::No(before)),
-            Verdict::Done => {
+        match changed(&mut layout, &change)? {
+            Outcome::No => Ok(Answer::No(before)),
+            Outcome::Done => {
                 self.grid = Some(layout);
                 let answer = shown(&change, layout);
                 let _ = self.posted.push(Posting::Changed(change));
