@@ -8,13 +8,24 @@ ghost use Rattle.grid.specs.Layouts.{seen};
 use crate::error::GridFault;
 use crate::layout::Layout;
 use selection::SliceArg;
+use std::fmt;
 
 /// A call that changes a grid, with its arguments.
-#[derive(Clone, Copy)]
+#[derive(Clone, Copy, Drop)]
 pub enum Call<S> {
     Slice(S),
     Collapse(usize, usize),
     Merge(usize, usize),
+}
+
+impl<S: fmt::Display> fmt::Display for Call<S> {
+    fn fmt<W: fmt::Write>(&self, f: &mut fmt::Formatter<W>) -> fmt::Result {
+        match self {
+            Call::Slice(sel) => write!(f, "slice {sel}"),
+            Call::Collapse(axis, index) => write!(f, "collapse {axis} {index}"),
+            Call::Merge(take, into) => write!(f, "merge {take} {into}"),
+        }
+    }
 }
 
 /// How a call that is not refused ends: merging's no, or done.

@@ -1,5 +1,5 @@
 /// How the strides of a new grid are given.
-#[derive(Clone, Copy)]
+#[derive(Clone, Copy, Drop)]
 pub enum Strides<S> {
     C,
     F,

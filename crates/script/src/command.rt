@@ -4,6 +4,7 @@ ghost use Rattle.script.specs.declared.command.Value.TheVariants.{Cents, Line};
 use crate::expected::{Expected, What};
 use crate::selected::Selection;
 use cells::PayLine;
+use grid::{Call, Strides};
 use selection::Slice;
 use std::fmt;
 
@@ -72,40 +73,17 @@ impl fmt::Display for Value {
     }
 }
 
-/// How the strides of an opening are written: an order, or a row of any length.
-#[derive(Drop)]
-pub enum Arrangement {
-    C,
-    F,
-    Row(Vec<usize>),
-}
-
 /// What an opening asks for, its rows as they are written.
 #[derive(Drop)]
 pub struct Opening {
     pub cells: usize,
     pub size: usize,
     pub lens: Vec<usize>,
-    pub arrangement: Arrangement,
+    pub strides: Strides<Vec<usize>>,
 }
 
 /// A call that changes the open grid.
-#[derive(Drop)]
-pub enum Change {
-    Slice(Selection),
-    Collapse(usize, usize),
-    Merge(usize, usize),
-}
-
-impl fmt::Display for Change {
-    fn fmt<W: fmt::Write>(&self, f: &mut fmt::Formatter<W>) -> fmt::Result {
-        match self {
-            Change::Slice(selection) => write!(f, "slice {selection}"),
-            Change::Collapse(axis, index) => write!(f, "collapse {axis} {index}"),
-            Change::Merge(take, into) => write!(f, "merge {take} {into}"),
-        }
-    }
-}
+pub type Change = Call<Selection>;
 
 /// A value for every cell of the open grid, or for those of a selection of it.
 #[derive(Drop)]

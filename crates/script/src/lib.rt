@@ -8,9 +8,7 @@ mod parse;
 mod scan;
 mod selected;
 
-pub use command::{
-    Arrangement, Change, Command, Filling, Kind, Marked, Opening, Ruling, Storing, Value,
-};
+pub use command::{Change, Command, Filling, Kind, Marked, Opening, Ruling, Storing, Value};
 pub use expected::{Expected, Noun, What};
 pub use list::write_list;
 pub use parse::parse_line;

@@ -1,9 +1,10 @@
 ghost use Rattle.std.specs.Prelude.{◌≤◌, length, IfOk};
 ghost use Rattle.script.specs.Cursors.{Placed, Step};
 
-use crate::command::{Arrangement, Command, Kind, Marked, Opening};
+use crate::command::{Command, Kind, Marked, Opening};
 use crate::expected::{Expected, Noun, What};
 use crate::scan::{Cursor, front, not_blank};
+use grid::Strides;
 use std::alloc::Global;
 
 mod brackets;
@@ -97,27 +98,27 @@ fn open(cursor: &mut Cursor<'_>) -> Result<Command, Expected>
     let cells = number(cursor, Noun::Cells)?.value;
     let size = number(cursor, Noun::Size)?.value;
     let lens = row(cursor, Noun::Length)?;
-    let arrangement = arrangement(cursor)?;
+    let strides = arrangement(cursor)?;
     Ok(Command::Open(Opening {
         cells,
         size,
         lens,
-        arrangement,
+        strides,
     }))
 }
 
 /// An order, or a row of strides.
-fn arrangement(cursor: &mut Cursor<'_>) -> Result<Arrangement, Expected>
+fn arrangement(cursor: &mut Cursor<'_>) -> Result<Strides<Vec<usize>>, Expected>
     ensures { Step cursor.old result cursor.new }
 {
     cursor.skip_blanks();
     if cursor.is_next(b'[') {
-        return strides(cursor).map(Arrangement::Row);
+        return strides(cursor).map(Strides::Custom);
     }
     let word = cursor.word();
     match word.value {
-        b"c" => Ok(Arrangement::C),
-        b"f" => Ok(Arrangement::F),
+        b"c" => Ok(Strides::C),
+        b"f" => Ok(Strides::F),
         _ => Err(word.expected(What::Strides)),
     }
 }

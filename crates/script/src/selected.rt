@@ -1,4 +1,6 @@
-ghost use Rattle.std.specs.Prelude.{◌≡◌};
+ghost use Rattle.std.specs.Prelude.{◌≡◌, refl};
+ghost use Rattle.laws.specs.Elements.{in_count, out_count};
+ghost use Rattle.selection.specs.Slices.{elems_of};
 
 use crate::list::write_values;
 use selection::{Lent, Slice, SliceArg, SliceInfoElem};
@@ -19,9 +21,35 @@ impl Selection {
     }
 }
 
+impl SliceArg for Selection {
+    ghost elems = { λ x. elems_of x.elems.items };
+
+    ghost ins = { λ x. in_count (elems_of x.elems.items) };
+
+    ghost outs = { λ x. out_count (elems_of x.elems.items) };
+
+    ghost owed = { λ x. record { takes = refl; leaves = refl } };
+
+    fn len(&self) -> usize {
+        self.elems.len()
+    }
+
+    fn elem(&self, place: usize) -> Option<SliceInfoElem> {
+        self.lent().elem(place)
+    }
+
+    fn in_ndim(&self) -> usize {
+        self.lent().in_ndim()
+    }
+
+    fn out_ndim(&self) -> usize {
+        self.lent().out_ndim()
+    }
+}
+
 impl fmt::Display for Selection {
     fn fmt<W: fmt::Write>(&self, f: &mut fmt::Formatter<W>) -> fmt::Result {
-        write_selection(f, &self.lent())
+        write_selection(f, self)
     }
 }
 

@@ -1,9 +1,10 @@
 use crate::answer::Answer;
 use crate::refusal::{Fault, Refusal};
 use dimension::IxDyn;
-use grid::{Call, GridCall, GridFault, Layout, Outcome, Strides, at_call, replay};
-use script::{Arrangement, Change, Opening, Ruling, Storing};
-use selection::{AxisRule, Lent, SliceArg, SliceInfo};
+use grid::{GridCall, GridFault, Layout, Outcome, Strides, at_call, replay};
+use script::{Change, Opening, Ruling, Storing};
+use selection::{AxisRule, SliceArg, SliceInfo};
+use std::slice;
 
 /// A row of an opening, as a row of the grid.
 fn row(words: &[usize]) -> Result<IxDyn, GridFault> {
@@ -11,34 +12,25 @@ fn row(words: &[usize]) -> Result<IxDyn, GridFault> {
 }
 
 /// The strides of an opening, as a row of the grid.
-fn strides(arrangement: &Arrangement) -> Result<Strides<IxDyn>, GridFault> {
-    match arrangement {
-        Arrangement::C => Ok(Strides::C),
-        Arrangement::F => Ok(Strides::F),
-        Arrangement::Row(words) => row(words.as_slice()).map(Strides::Custom),
+fn strides(given: &Strides<Vec<usize>>) -> Result<Strides<IxDyn>, GridFault> {
+    match given {
+        Strides::C => Ok(Strides::C),
+        Strides::F => Ok(Strides::F),
+        Strides::Custom(words) => row(words.as_slice()).map(Strides::Custom),
     }
 }
 
 /// The layout that an opening asks for.
 pub(crate) fn opened(opening: &Opening) -> Result<Layout, GridFault> {
     let lens = row(opening.lens.as_slice())?;
-    let strides = strides(&opening.arrangement)?;
+    let strides = strides(&opening.strides)?;
     Layout::open(opening.cells, opening.size, &lens, &strides)
-}
-
-/// The call that a change asks for.
-fn call(change: &Change) -> Call<Lent<'_>> {
-    match change {
-        Change::Slice(selection) => Call::Slice(selection.lent()),
-        Change::Collapse(axis, index) => Call::Collapse(*axis, *index),
-        Change::Merge(take, into) => Call::Merge(*take, *into),
-    }
 }
 
 /// Makes a change of a grid, as a history of one call.
 pub(crate) fn changed(layout: &mut Layout, change: &Change) -> Result<Outcome, GridFault> {
     let mut said = [Ok(Outcome::No)];
-    let _ = replay(layout, &[call(change)], &mut said);
+    let _ = replay(layout, slice::from_ref(change), &mut said);
     said[0]
 }
 

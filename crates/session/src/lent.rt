@@ -38,7 +38,7 @@ fn fill_cells<T: Cell>(
     let what = T::WANTED;
     let value = T::of(filling.value.value).ok_or(Expected { column, what })?;
     match &filling.selection {
-        Some(selection) => fill_selection(layout, &selection.lent(), cells.as_mut_slice(), value)?,
+        Some(selection) => fill_selection(layout, selection, cells.as_mut_slice(), value)?,
         None => fill(layout, cells.as_mut_slice(), value)?,
     }
     Ok(())

@@ -13,7 +13,7 @@ fn filled_size(layout: &Layout, selection: &Option<Selection>) -> usize {
     match selection {
         None => grid_size(layout),
         Some(selection) => layout
-            .slice_move(&selection.lent())
+            .slice_move(selection)
             .map_or(0, |slice| grid_size(&slice)),
     }
 }
