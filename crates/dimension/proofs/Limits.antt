@@ -1,22 +1,17 @@
--- Tests of a limit, and answers that are refused.
-use Rattle.std.proofs.Common.{◌≡◌, ℕ, ◌-◌, ◌^◌, ◌<◌, ◌≤◌, cond, Some, None, sym, ap, inl, inr, arith}
+-- A number that is kept only where it is a word.
+use Rattle.std.proofs.Common.{◌≡◌, ℕ, ◌^◌, ◌<◌, ◌≤◌, cond, Some, None, sym, ap, inl, inr}
 use Rattle.std.proofs.lemmas.Bool.{lt-ltb, le-ltb, cases_lt}
-use Rattle.dimension.specs.Reach.{limited}
+use Rattle.dimension.specs.Reach.{worded}
 
-pub limited_over : (n : ℕ) → 2 ^ 63 - 1 < n → None ≡ limited n
-limited_over n h = ap (λ b. cond b None (Some n)) (sym (lt-ltb (2 ^ 63 - 1) n h))
+pub worded_over : (n : ℕ) → 2 ^ 64 ≤ n → None ≡ worded n
+worded_over n h = ap (λ b. cond b (Some n) None) (sym (le-ltb n (2 ^ 64) h))
 
-pub limited_fits : (n : ℕ) → n ≤ 2 ^ 63 - 1 → Some n ≡ limited n
-limited_fits n h = ap (λ b. cond b None (Some n)) (sym (le-ltb (2 ^ 63 - 1) n h))
+pub worded_fits : (n : ℕ) → n < 2 ^ 64 → Some n ≡ worded n
+worded_fits n h = ap (λ b. cond b (Some n) None) (sym (lt-ltb n (2 ^ 64) h))
 
-pub limited-some : (n m : ℕ) → Some m ≡ limited n → (m ≡ n) × (n ≤ 2 ^ 63 - 1)
-limited-some n m e = elim (cases_lt (2 ^ 63 - 1) n) [
-  | inl over ↦ let f = limited_over n over in let z : ◌≡◌ {A = ℕ} 0 1 = cc in absurd (omega arith)
-  | inr under ↦ let f = limited_fits n under in (cc, under)
-]
-
-pub limited_none : (n : ℕ) → None ≡ limited n → 2 ^ 63 - 1 < n
-limited_none n e = elim (cases_lt (2 ^ 63 - 1) n) [
-  | inl over ↦ over
-  | inr under ↦ let f = limited_fits n under in let z : ◌≡◌ {A = ℕ} 0 1 = cc in absurd (omega arith)
+-- a product or a sum that is no word is too great
+pub past_word : (n : ℕ) → (n < 2 ^ 64 → ⊥) → 2 ^ 64 ≤ n
+past_word n h = elim (cases_lt n (2 ^ 64)) [
+  | inl under ↦ absurd (h under)
+  | inr over ↦ over
 ]

@@ -23,3 +23,7 @@ owed_reverse rank ws o = record {
 -- the first few of some cells
 pub owed_front : (n : ℕ) (cells : List ℕ) → n ≤ 8 → Owed None (take n cells)
 owed_front n cells h = record { few = omega (arith, length-take n cells); counted = tt }
+
+-- as many words as the type fixes, at most eight
+pub owed_fixed : (n : ℕ) (ws : List ℕ) → n ≤ 8 → length ws ≡ n → Owed (Some n) ws
+owed_fixed n ws few full = record { few = subst (λ (m : ℕ). m ≤ 8) (sym full) few; counted = sym full }

@@ -1,79 +1,47 @@
-ghost use Rattle.std.proofs.Common.{lit≤};
-ghost use Rattle.std.specs.Prelude.{[], ◌∷◌, Some, refl};
+ghost use Rattle.std.specs.Prelude.{◌≡◌, ◌≤◌, length, Some};
 
 use crate::dimension_trait::Dimension;
 
-/// A row of one word.
-#[derive(Clone, Copy)]
-pub struct Ix1(pub usize);
-
-impl Dimension for Ix1 {
-    ghost words = { λ x. x.0 ∷ [] };
-
-    ghost rank = { Some 1 };
-
-    ghost owed = { λ x. record { few = lit≤ tt; counted = refl } };
-
-    fn fixed() -> Option<usize> {
-        Some(1)
-    }
-
-    fn ndim(&self) -> usize {
-        1
-    }
-
-    fn get(&self, place: usize) -> Option<usize> {
-        if place == 0 { Some(self.0) } else { None }
-    }
-
-    fn set(&mut self, place: usize, word: usize) -> bool {
-        if place == 0 {
-            self.0 = word;
-            true
-        } else {
-            false
-        }
-    }
+/// A row whose count of words, at most eight, is fixed by its type.
+#[derive(Clone, Copy, PartialEq, Eq, Debug)]
+pub struct Dim<const N: usize> {
+    pub index: [usize; N],
+    ghost few: { N ≤ 8 },
+    ghost full: { length index ≡ N },
 }
 
+/// A row of one word.
+pub type Ix1 = Dim<1>;
+
 /// A row of two words.
-#[derive(Clone, Copy)]
-pub struct Ix2(pub usize, pub usize);
+pub type Ix2 = Dim<2>;
 
-impl Dimension for Ix2 {
-    ghost words = { λ x. x.0 ∷ x.1 ∷ [] };
+impl<const N: usize> Dimension for Dim<N> {
+    ghost use Rattle.dimension.specs.Owed.{owed_fixed};
 
-    ghost rank = { Some 2 };
+    ghost words = { λ x. x.index };
 
-    ghost owed = { λ x. record { few = lit≤ tt; counted = refl } };
+    ghost rank = { Some N };
+
+    ghost owed = { λ x. owed_fixed N x.index x.few x.full };
 
     fn fixed() -> Option<usize> {
-        Some(2)
+        Some(N)
     }
 
     fn ndim(&self) -> usize {
-        2
+        N
     }
 
     fn get(&self, place: usize) -> Option<usize> {
-        match place {
-            0 => Some(self.0),
-            1 => Some(self.1),
-            _ => None,
-        }
+        self.index.get(place).copied()
     }
 
     fn set(&mut self, place: usize, word: usize) -> bool {
-        match place {
-            0 => {
-                self.0 = word;
-                true
-            }
-            1 => {
-                self.1 = word;
-                true
-            }
-            _ => false,
+        let within = place < N;
+        if within {
+            self.index[place] = word;
         }
+        within
     }
 }

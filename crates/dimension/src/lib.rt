@@ -11,14 +11,15 @@ mod sequence;
 mod size;
 mod strides;
 
-pub use dim::{Ix1, Ix2};
+pub use dim::{Dim, Ix1, Ix2};
 pub use dimension_trait::Dimension;
 pub use dynindeximpl::IxDyn;
 pub use error::{Layer, RowFault};
 pub use order::Order;
 pub use reach::{
-    magnitude, max_abs_offset_check_overflow, stride_offset, strides_non_negative, strides_within,
+    in_step, magnitude, max_abs_offset_check_overflow, stride_offset, strides_non_negative,
+    strides_within,
 };
 pub use sequence::Reverse;
-pub use size::{lengths_within, size_of_shape_checked, word_at};
+pub use size::{LIMIT, is_empty, lengths_within, size_of_shape_checked, word_at};
 pub use strides::{default_strides, fortran_strides};

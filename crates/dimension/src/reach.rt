@@ -1,25 +1,18 @@
-ghost use Rattle.std.specs.Prelude.{◌≡◌, ◌+◌, ◌-◌, ◌*◌, ◌^◌, ◌≤◌, not, T, length, pos, ◌+ℤ◌, ◌*ℤ◌, nat_le, unsigned_abs};
+ghost use Rattle.std.specs.Prelude.{◌≡◌, ◌+◌, ◌-◌, ◌*◌, ◌^◌, ◌≤◌, not, T, length, pos, ◌+ℤ◌, ◌*ℤ◌, nat_le, nat_lt, unsigned_abs};
 ghost use Rattle.std.specs.Int.{w64};
+ghost use Rattle.std.specs.List.{list_all, list_any};
 ghost use Rattle.std.proofs.Common.{to_z};
 ghost use Rattle.laws.specs.Space.{inside};
 ghost use Rattle.laws.specs.Strides.{signed, onward};
 ghost use Rattle.laws.specs.Opening.{span, reached, non_negative, some_above};
+ghost use Rattle.laws.specs.Merging.{same_stride};
 ghost use Rattle.dimension.specs.Errors.{answered};
-ghost use Rattle.dimension.specs.Reach.{limited};
+ghost use Rattle.dimension.specs.Reach.{worded};
 
 use crate::dimension_trait::Dimension;
+use crate::dynindeximpl::IxDyn;
 use crate::error::RowFault;
-use crate::size::{MOST, size_of_shape_checked, word_at};
-
-/// Whether a product is within a limit, found with no product.
-fn product_within(left: usize, right: usize, limit: usize) -> bool
-    ensures { result ≡ nat_le (left * right) limit }
-{
-    if right == 0 {
-        return true;
-    }
-    left <= limit / right
-}
+use crate::size::{MOST, size_of_shape_checked};
 
 /// A stride's magnitude, the word read as two's complement.
 pub fn magnitude(word: usize) -> usize
@@ -36,32 +29,22 @@ pub fn stride_offset(from: usize, index: usize, stride: usize) -> usize
     from.wrapping_add(index.wrapping_mul(stride))
 }
 
-/// One axis more of a reach that is within 63 bits.
-fn add_axis(far: usize, length: usize, size: usize) -> Option<usize>
-    requires { far ≤ 2 ^ 63 - 1 }
-    ensures { result ≡ limited (far + (length - 1) * size) }
+/// Whether a stride is a length times another stride, whatever the words.
+pub fn in_step(stride: usize, length: usize, other: usize) -> bool
+    ensures { result ≡ same_stride (to_z w64 stride) (pos length *ℤ to_z w64 other) }
 {
-    let most = length.saturating_sub(1);
-    if !product_within(most, size, MOST - far) {
-        return None;
-    }
-    Some(far + most * size)
+    stride.cast_signed() as i128 == length as i128 * other.cast_signed() as i128
 }
 
-/// The reach of two rows of one rank, if it is within 63 bits.
-fn checked_reach<D: Dimension, S: Dimension>(dim: &D, strides: &S) -> Option<usize>
-    requires { length (D.Dimension.words dim.now) ≡ length (S.Dimension.words strides.now) }
-    ensures { result ≡ limited (span (D.Dimension.words dim.now) (signed (S.Dimension.words strides.now))) }
+/// The reach of two rows of one rank, if it is a word.
+fn checked_reach(lens: &[usize], strides: &[usize]) -> Option<usize>
+    requires { length lens.now ≡ length strides.now }
+    ensures { result ≡ worded (span lens.now (signed strides.now)) }
 {
-    let count = dim.ndim();
-    let mut far = 0;
-    for place in 0..count {
-        let length = word_at(dim, place);
-        let size = magnitude(word_at(strides, place));
-        let Some(next) = add_axis(far, length, size) else {
-            return None;
-        };
-        far = next;
+    let mut far: usize = 0;
+    for (length, stride) in lens.iter().zip(strides) {
+        let most = length.saturating_sub(1);
+        far = far.checked_add(most.checked_mul(magnitude(*stride))?)?;
     }
     Some(far)
 }
@@ -77,36 +60,44 @@ pub fn max_abs_offset_check_overflow<D: Dimension, S: Dimension>(
     if dim.ndim() != strides.ndim() {
         return Err(RowFault::IncompatibleLayout);
     }
-    let _count = size_of_shape_checked(dim)?;
-    let Some(far) = checked_reach(dim, strides) else {
-        return Err(RowFault::Overflow);
-    };
-    if !product_within(far, size, MOST) {
+    size_of_shape_checked(dim)?;
+    let lens = IxDyn::copy_of(dim);
+    let row = IxDyn::copy_of(strides);
+    let far = checked_reach(lens.as_slice(), row.as_slice()).ok_or(RowFault::Overflow)?;
+    let bytes = far.checked_mul(size).ok_or(RowFault::Overflow)?;
+    if far > MOST || bytes > MOST {
         return Err(RowFault::Overflow);
     }
     Ok(far)
+}
+
+/// Whether some word, read as two's complement, is negative.
+fn has_negative(strides: &[usize]) -> bool
+    ensures { result ≡ list_any (λ w. nat_lt 9223372036854775807 w) strides.now }
+{
+    strides.iter().any(|word| *word > MOST)
 }
 
 /// Refuses a row with a negative stride.
 pub fn strides_non_negative<S: Dimension>(strides: &S) -> Result<(), RowFault>
     ensures { answered (λ u. u) result ≡ non_negative (signed (S.Dimension.words strides.now)) }
 {
-    for place in 0..strides.ndim() {
-        if word_at(strides, place) > MOST {
-            return Err(RowFault::Unsupported);
-        }
+    if has_negative(IxDyn::copy_of(strides).as_slice()) {
+        return Err(RowFault::Unsupported);
     }
     Ok(())
+}
+
+/// Whether the magnitude of each word, read as two's complement, is within a limit.
+fn all_within(strides: &[usize], limit: usize) -> bool
+    ensures { result ≡ list_all (λ w. nat_le (unsigned_abs (to_z w64 w)) limit) strides.now }
+{
+    strides.iter().all(|word| magnitude(*word) <= limit)
 }
 
 /// Whether every stride's magnitude is within a limit.
 pub fn strides_within<S: Dimension>(strides: &S, limit: usize) -> bool
     ensures { result ≡ not (some_above limit (signed (S.Dimension.words strides.now))) }
 {
-    for place in 0..strides.ndim() {
-        if magnitude(word_at(strides, place)) > limit {
-            return false;
-        }
-    }
-    true
+    all_within(IxDyn::copy_of(strides).as_slice(), limit)
 }

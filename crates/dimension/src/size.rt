@@ -1,56 +1,59 @@
 ghost use Rattle.std.specs.Prelude.{◌≡◌, ◌-◌, ◌^◌, ◌≤◌, nat_le, slice_index};
-ghost use Rattle.laws.specs.Lengths.{product, nonzero, nonzeros};
+ghost use Rattle.laws.specs.Lengths.{product, nonzeros, some_zero};
 ghost use Rattle.laws.specs.Opening.{sized};
 ghost use Rattle.dimension.specs.Errors.{answered};
+ghost use Rattle.dimension.specs.Reach.{worded};
 
 use crate::dimension_trait::Dimension;
+use crate::dynindeximpl::IxDyn;
 use crate::error::RowFault;
 
+/// The most that a size, a reach or a count of bytes may be.
 pub(crate) const MOST: usize = 9_223_372_036_854_775_807;
+
+/// The most that a grid's cells, size and strides may be.
+pub const LIMIT: usize = 1_048_576;
 
 /// The word at a place, or 0 past the end.
 pub fn word_at<D: Dimension>(row: &D, place: usize) -> usize
     ensures { result ≡ slice_index (D.Dimension.words row.now) place }
 {
-    match row.get(place) {
-        Some(word) => word,
-        None => 0,
-    }
+    row.get(place).unwrap_or(0)
 }
 
-/// A length as the limits count it: 1 in place of 0.
-fn counted_length(length: usize) -> usize
-    ensures { result ≡ nonzero length }
+/// Whether some length is 0, so that a grid of these lengths has no cells.
+pub fn is_empty<D: Dimension>(dim: &D) -> bool
+    ensures { result ≡ some_zero (D.Dimension.words dim.now) }
 {
-    if length == 0 { 1 } else { length }
+    IxDyn::copy_of(dim).as_slice().contains(&0)
+}
+
+/// The product of the lengths, 1 in place of each 0, if it is a word.
+fn nonzero_product(lens: &[usize]) -> Option<usize>
+    ensures { result ≡ worded (nonzeros lens.now) }
+{
+    let mut whole: usize = 1;
+    for length in lens {
+        whole = whole.checked_mul((*length).max(1))?;
+    }
+    Some(whole)
 }
 
 /// Whether the product of the nonzero lengths is within a limit.
 pub fn lengths_within<D: Dimension>(dim: &D, limit: usize) -> bool
     ensures { result ≡ nat_le (nonzeros (D.Dimension.words dim.now)) limit }
 {
-    if limit == 0 {
-        return false;
-    }
-    let mut whole = 1;
-    for place in 0..dim.ndim() {
-        let by = counted_length(word_at(dim, place));
-        if whole > limit / by {
-            return false;
-        }
-        whole *= by;
-    }
-    true
+    nonzero_product(IxDyn::copy_of(dim).as_slice()).is_some_and(|whole| whole <= limit)
 }
 
 /// The product of the lengths, which fits since that of the nonzero ones does.
-fn size<D: Dimension>(dim: &D) -> usize
-    requires { nonzeros (D.Dimension.words dim.now) ≤ 2 ^ 63 - 1 }
-    ensures { result ≡ product (D.Dimension.words dim.now) }
+fn size(lens: &[usize]) -> usize
+    requires { nonzeros lens.now ≤ 2 ^ 63 - 1 }
+    ensures { result ≡ product lens.now }
 {
     let mut size = 1;
-    for place in 0..dim.ndim() {
-        size *= word_at(dim, place);
+    for length in lens {
+        size *= *length;
     }
     size
 }
@@ -62,5 +65,5 @@ pub fn size_of_shape_checked<D: Dimension>(dim: &D) -> Result<usize, RowFault>
     if !lengths_within(dim, MOST) {
         return Err(RowFault::Overflow);
     }
-    Ok(size(dim))
+    Ok(size(IxDyn::copy_of(dim).as_slice()))
 }

@@ -1,11 +1,11 @@
 use cells::{PayLine, Reader, fill};
-use dimension::{Dimension, Ix1, Ix2};
+use dimension::{Dim, Dimension, Ix1};
 use grid::{Layout, Strides};
 use std::test::Fail;
 
 #[test]
 fn filling_reaches_the_grid_and_no_other_cell(rt: HostRuntime) -> Result<(), Fail> {
-    let grid = Layout::open(8, 8, &Ix2(2, 2), &Strides::Custom(Ix2(4, 2)))?;
+    let grid = Layout::open(8, 8, &Dim { index: [2, 2] }, &Strides::Custom(Dim { index: [4, 2] }))?;
     let mut amounts = [1i64; 8];
     fill(&grid, &mut amounts, -7)?;
     assert!(rt; amounts == [-7, 1, -7, 1, -7, 1, -7, 1]);
@@ -15,7 +15,7 @@ fn filling_reaches_the_grid_and_no_other_cell(rt: HostRuntime) -> Result<(), Fai
 #[test]
 fn another_count_of_cells_is_refused(rt: HostRuntime) -> Result<(), Fail> {
     let order: Strides<Ix1> = Strides::C;
-    let grid = Layout::open(4, 8, &Ix2(2, 2), &order)?;
+    let grid = Layout::open(4, 8, &Dim { index: [2, 2] }, &order)?;
     let mut amounts = [1i64; 5];
     assert!(rt; fill(&grid, &mut amounts, 9).is_err());
     assert!(rt; amounts == [1, 1, 1, 1, 1]);
@@ -25,7 +25,7 @@ fn another_count_of_cells_is_refused(rt: HostRuntime) -> Result<(), Fail> {
 #[test]
 fn a_reader_of_another_count_stays_blank(rt: HostRuntime) -> Result<(), Fail> {
     let order: Strides<Ix1> = Strides::C;
-    let grid = Layout::open(4, 8, &Ix2(2, 2), &order)?;
+    let grid = Layout::open(4, 8, &Dim { index: [2, 2] }, &order)?;
     let amounts = [1i64; 5];
     let mut reader = Reader::blank();
     let refused = reader.lend(&amounts, &grid).is_err();
@@ -38,7 +38,7 @@ fn a_reader_of_another_count_stays_blank(rt: HostRuntime) -> Result<(), Fail> {
 #[test]
 fn reading_finds_the_value_or_none(rt: HostRuntime) -> Result<(), Fail> {
     let order: Strides<Ix1> = Strides::F;
-    let grid = Layout::open(6, 8, &Ix2(2, 3), &order)?;
+    let grid = Layout::open(6, 8, &Dim { index: [2, 3] }, &order)?;
     let amounts = [0i64, 10, 20, 30, 40, 50];
     let mut reader = Reader::blank();
     reader.lend(&amounts, &grid)?;
@@ -52,7 +52,7 @@ fn reading_finds_the_value_or_none(rt: HostRuntime) -> Result<(), Fail> {
 
 #[test]
 fn pay_lines_are_cells_too(rt: HostRuntime) -> Result<(), Fail> {
-    let grid = Layout::open(3, 16, &Ix1(2), &Strides::Custom(Ix1(2)))?;
+    let grid = Layout::open(3, 16, &Dim { index: [2] }, &Strides::Custom(Dim { index: [2] }))?;
     let none = PayLine {
         person: 0,
         code: 0,

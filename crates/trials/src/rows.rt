@@ -1,5 +1,5 @@
 use dimension::{
-    Dimension, Ix1, Ix2, IxDyn, Reverse, RowFault, default_strides, fortran_strides,
+    Dim, Dimension, Ix1, IxDyn, Reverse, RowFault, default_strides, fortran_strides,
     max_abs_offset_check_overflow, size_of_shape_checked, strides_non_negative,
 };
 use std::test::Fail;
@@ -8,13 +8,13 @@ const MOST: usize = 9_223_372_036_854_775_807;
 
 #[test]
 fn rows_read_and_write_one_place(rt: HostRuntime) {
-    let mut row = Ix2(4, 5);
+    let mut row = Dim { index: [4, 5] };
     assert_eq!(rt; row.get(1), Some(5));
     assert_eq!(rt; row.get(2), None);
     assert!(rt; row.set(0, 9));
     assert!(rt; !row.set(2, 7));
-    assert_eq!(rt; (row.0, row.1), (9, 5));
-    let mut one = Ix1(3);
+    assert_eq!(rt; row.index, [9, 5]);
+    let mut one = Dim { index: [3] };
     assert!(rt; !one.set(1, 8));
     assert_eq!(rt; one.get(0), Some(3));
 }
@@ -49,13 +49,13 @@ fn sizes_and_their_limit(rt: HostRuntime) -> Result<(), Fail> {
         size_of_shape_checked(&IxDyn::new(&[1 << 40, 1 << 40, 0])?),
         Err(RowFault::Overflow)
     );
-    assert_eq!(rt; size_of_shape_checked(&Ix1(MOST)), Ok(MOST));
+    assert_eq!(rt; size_of_shape_checked(&Dim { index: [MOST] }), Ok(MOST));
     assert_eq!(rt;
-        size_of_shape_checked(&Ix1(MOST + 1)),
+        size_of_shape_checked(&Dim { index: [MOST + 1] }),
         Err(RowFault::Overflow)
     );
     assert_eq!(rt;
-        size_of_shape_checked(&Ix2(usize::MAX, 0)),
+        size_of_shape_checked(&Dim { index: [usize::MAX, 0] }),
         Err(RowFault::Overflow)
     );
     Ok(())
@@ -74,45 +74,45 @@ fn strides_of_both_orders(rt: HostRuntime) -> Result<(), Fail> {
         (column.get(0), column.get(1), column.get(2)),
         (Some(1), Some(2), Some(6))
     );
-    let empty = default_strides(&Ix2(0, 3))?;
-    assert_eq!(rt; (empty.0, empty.1), (0, 0));
-    assert!(rt; default_strides(&Ix2(1 << 40, 1 << 40)).is_err());
+    let empty = default_strides(&Dim { index: [0, 3] })?;
+    assert_eq!(rt; empty.index, [0, 0]);
+    assert!(rt; default_strides(&Dim { index: [1 << 40, 1 << 40] }).is_err());
     Ok(())
 }
 
 #[test]
 fn reach_and_its_limits(rt: HostRuntime) {
     assert_eq!(rt;
-        max_abs_offset_check_overflow(8, &Ix2(2, 3), &Ix2(3, 2)),
+        max_abs_offset_check_overflow(8, &Dim { index: [2, 3] }, &Dim { index: [3, 2] }),
         Ok(7)
     );
     assert_eq!(rt;
-        max_abs_offset_check_overflow(8, &Ix2(2, 3), &Ix1(1)),
+        max_abs_offset_check_overflow(8, &Dim { index: [2, 3] }, &Dim { index: [1] }),
         Err(RowFault::IncompatibleLayout)
     );
     assert_eq!(rt;
-        max_abs_offset_check_overflow(1, &Ix1(2), &Ix1(MOST)),
+        max_abs_offset_check_overflow(1, &Dim { index: [2] }, &Dim { index: [MOST] }),
         Ok(MOST)
     );
     assert_eq!(rt;
-        max_abs_offset_check_overflow(2, &Ix1(2), &Ix1(MOST)),
+        max_abs_offset_check_overflow(2, &Dim { index: [2] }, &Dim { index: [MOST] }),
         Err(RowFault::Overflow)
     );
     assert_eq!(rt;
-        max_abs_offset_check_overflow(1, &Ix1(2), &Ix1(MOST + 1)),
+        max_abs_offset_check_overflow(1, &Dim { index: [2] }, &Dim { index: [MOST + 1] }),
         Err(RowFault::Overflow)
     );
     assert_eq!(rt;
-        max_abs_offset_check_overflow(1, &Ix1(2), &Ix1(usize::MAX)),
+        max_abs_offset_check_overflow(1, &Dim { index: [2] }, &Dim { index: [usize::MAX] }),
         Ok(1)
     );
     assert_eq!(rt;
-        max_abs_offset_check_overflow(1, &Ix1(1), &Ix1(MOST + 1)),
+        max_abs_offset_check_overflow(1, &Dim { index: [1] }, &Dim { index: [MOST + 1] }),
         Ok(0)
     );
-    assert_eq!(rt; strides_non_negative(&Ix2(1, MOST)), Ok(()));
+    assert_eq!(rt; strides_non_negative(&Dim { index: [1, MOST] }), Ok(()));
     assert_eq!(rt;
-        strides_non_negative(&Ix2(1, MOST + 1)),
+        strides_non_negative(&Dim { index: [1, MOST + 1] }),
         Err(RowFault::Unsupported)
     );
 }

@@ -1,4 +1,4 @@
-use dimension::{Dimension, Ix1, Ix2};
+use dimension::{Dim, Dimension, Ix1};
 use grid::{GridFault, Layout, Strides};
 use selection::{AxisRule, Lent, SliceInfo, SliceInfoElem};
 use std::test::Fail;
@@ -6,7 +6,7 @@ use std::test::Fail;
 /// A line of ten cells.
 fn line() -> Result<Layout, GridFault> {
     let order: Strides<Ix1> = Strides::C;
-    Layout::open(10, 8, &Ix1(10), &order)
+    Layout::open(10, 8, &Dim { index: [10] }, &order)
 }
 
 /// The length, the stride and the start of a cut of the line, or the number of its fault.
@@ -50,7 +50,7 @@ fn steps_and_places_at_their_limits(rt: HostRuntime) {
 #[test]
 fn three_kinds_of_selection_cut_alike(rt: HostRuntime) -> Result<(), Fail> {
     let order: Strides<Ix1> = Strides::C;
-    let grid = Layout::open(12, 8, &Ix2(3, 4), &order)?;
+    let grid = Layout::open(12, 8, &Dim { index: [3, 4] }, &order)?;
     let whole = SliceInfoElem::Slice {
         start: 0,
         end: None,
@@ -87,7 +87,7 @@ fn three_kinds_of_selection_cut_alike(rt: HostRuntime) -> Result<(), Fail> {
 #[test]
 fn collapsing_and_merging(rt: HostRuntime) -> Result<(), Fail> {
     let order: Strides<Ix1> = Strides::C;
-    let mut grid = Layout::open(6, 8, &Ix2(2, 3), &order)?;
+    let mut grid = Layout::open(6, 8, &Dim { index: [2, 3] }, &order)?;
     assert!(rt; grid.collapse_axis(2, 0).is_err());
     assert!(rt; grid.collapse_axis(0, 2).is_err());
     assert!(rt; !grid.merge_axes(1, 0)?);

@@ -16,9 +16,7 @@ impl IxDyn {
             return Err(RowFault::RankLimit);
         }
         let mut cells = [0; 8];
-        for place in 0..list.len() {
-            cells[place] = list[place];
-        }
+        cells[..list.len()].copy_from_slice(list);
         Ok(IxDyn {
             cells,
             count: list.len(),
@@ -53,11 +51,20 @@ impl IxDyn {
         ensures { listed result ≡ D.Dimension.words row.now }
     {
         let mut cells = [0; 8];
-        let count = row.ndim();
-        for place in 0..count {
-            cells[place] = word_at(row, place);
+        for (place, cell) in cells.iter_mut().enumerate() {
+            *cell = word_at(row, place);
         }
-        IxDyn { cells, count }
+        IxDyn {
+            cells,
+            count: row.ndim(),
+        }
+    }
+
+    /// The words, in order.
+    pub fn as_slice(&self) -> &[usize]
+        ensures { result.now ≡ listed self.now }
+    {
+        &self.cells[..self.count]
     }
 
     /// Adds a word at the end; a row of eight words answers no and stays as it is.
@@ -65,17 +72,12 @@ impl IxDyn {
         ensures after { listed self.new ≡ pushed (listed self.old) word }
         ensures answer { result ≡ nat_lt (length (listed self.old)) 8 }
     {
-        let count = self.count;
-        if count >= 8 {
-            return false;
+        let room = self.count < 8;
+        if room {
+            self.cells[self.count] = word;
+            self.count += 1;
         }
-        let mut cells = self.cells;
-        cells[count] = word;
-        *self = IxDyn {
-            cells,
-            count: count + 1,
-        };
-        true
+        room
     }
 }
 
@@ -95,19 +97,14 @@ impl Dimension for IxDyn {
     }
 
     fn get(&self, place: usize) -> Option<usize> {
-        if place < self.count {
-            Some(self.cells[place])
-        } else {
-            None
-        }
+        self.as_slice().get(place).copied()
     }
 
     fn set(&mut self, place: usize, word: usize) -> bool {
-        if place < self.count {
+        let within = place < self.count;
+        if within {
             self.cells[place] = word;
-            true
-        } else {
-            false
         }
+        within
     }
 }

@@ -14,7 +14,7 @@ use super::overlap::{dim_stride_overlap, is_empty};
 use crate::error::{Cause, GridCall, GridFault, at_call};
 use crate::shape_builder::Strides;
 use dimension::{
-    Dimension, Ix1, IxDyn, Order, RowFault, default_strides, fortran_strides, lengths_within,
+    Dim, Dimension, IxDyn, Order, RowFault, default_strides, fortran_strides, lengths_within,
     max_abs_offset_check_overflow, size_of_shape_checked, strides_non_negative, strides_within,
 };
 
@@ -161,7 +161,7 @@ impl Layout {
     pub fn blank() -> Layout
         ensures { seen result ≡ fresh 0 (0 ∷ []) (pos 0 ∷ []) }
     {
-        let row = IxDyn::copy_of(&Ix1(0));
+        let row = IxDyn::copy_of(&Dim { index: [0] });
         Layout {
             cells: 0,
             start: 0,

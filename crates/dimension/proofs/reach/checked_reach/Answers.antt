@@ -1,37 +1,43 @@
-use Rattle.std.proofs.Common.{◌≡◌, ◌+◌, ◌-◌, ◌*◌, get_or, nat_abs, ap, ◌∙◌, arith, w64, to_z}
+use Rattle.std.proofs.Common.{◌≡◌, ℕ, ◌-◌, ◌*◌, length, nat_abs, ap, ◌∙◌, inl, inr, arith, w64, to_z}
 use Rattle.laws.specs.Strides.{signed}
 use Rattle.laws.specs.Opening.{span}
-use Rattle.laws.proofs.Reach.{reach_word, reach-all}
-use Rattle.dimension.specs.Reach.{limited}
-use Rattle.dimension.proofs.Limits.{limited_fits, limited_over, limited-some, limited_none}
+use Rattle.dimension.specs.Reach.{worded}
+use Rattle.dimension.proofs.Limits.{worded_over, worded_fits, past_word}
+use Rattle.dimension.proofs.Rows.{axis_more, no_axes}
 use Rattle.dimension.proofs.reach.checked_reach.Goals as goal
 
-pub returns-in_default : goal.returns-in_default
-returns-in_default g c =
-    let ls = g.D.Dimension.words c.args.dim.now in
-    let ws = g.S.Dimension.words c.args.strides.now in
-    let i = c.loop-place.place in
-    let over = limited_none (c.loop-place.far + (c.word_at-length.result - 1) * c.magnitude-size.result) c.in_default.ensures in
-    let more = reach_word nat_abs ls ws i (omega arith) c.requires in
-    let axis : (c.word_at-length.result - 1) * c.magnitude-size.result ≡ (get_or ls i 0 - 1) * nat_abs (to_z w64 (get_or ws i 0)) =
-    ap (λ n. (n - 1) * c.magnitude-size.result) c.word_at-length.ensures ∙ ap (λ n. (get_or ls i 0 - 1) * n) (c.magnitude-size.ensures ∙ ap (λ w. nat_abs (to_z w64 w)) c.word_at.ensures) in
-    limited_over (span ls (signed ws)) (omega (arith, c.loop-place.invariant.0))
+-- what an axis adds, as the code computes it
+adds : (n m w size : ℕ) → m ≡ n - 1 → size ≡ nat_abs (to_z w64 w) → m * size ≡ (n - 1) * nat_abs (to_z w64 w)
+adds n m w size e f = ap (λ k. k * size) e ∙ ap (λ k. (n - 1) * k) f
 
-pub loop-place-preserved : goal.loop-place-preserved
-loop-place-preserved g c =
-    let ls = g.D.Dimension.words c.args.dim.now in
-    let ws = g.S.Dimension.words c.args.strides.now in
-    let i = c.loop-place.place in
-    let is = limited-some (c.loop-place.far + (c.word_at-length.result - 1) * c.magnitude-size.result) c.in-Some.next c.in-Some.ensures in
-    let more = reach_word nat_abs ls ws i (omega arith) c.requires in
-    let axis : (c.word_at-length.result - 1) * c.magnitude-size.result ≡ (get_or ls i 0 - 1) * nat_abs (to_z w64 (get_or ws i 0)) =
-    ap (λ n. (n - 1) * c.magnitude-size.result) c.word_at-length.ensures ∙ ap (λ n. (get_or ls i 0 - 1) * n) (c.magnitude-size.ensures ∙ ap (λ w. nat_abs (to_z w64 w)) c.word_at.ensures) in
-    (omega (arith, c.loop-place.invariant.0), omega arith)
+pub returns-in_err-checked_mul : goal.returns-in_err-checked_mul
+returns-in_err-checked_mul c =
+    let big = past_word _ c.in_err-checked_mul.ensures in
+    let axis = adds c.in-Some.length.now _ c.in-Some.stride.now _ c.saturating_sub-most.ensures c.magnitude.ensures in
+    let more = axis_more _ _ _ _ _ _ c.loop-length.far _ c.in-Some.ensures.steps c.loop-length.invariant.3 in
+    c.from_residual.ensures ∙ worded_over (span c.args.lens.now (signed c.args.strides.now)) (omega arith)
+
+pub returns-in_err-far : goal.returns-in_err-far
+returns-in_err-far c =
+    let big = past_word _ c.in_err-far.ensures in
+    let axis = c.in_ok-checked_mul.ensures.1 ∙ adds c.in-Some.length.now _ c.in-Some.stride.now _ c.saturating_sub-most.ensures c.magnitude.ensures in
+    let more = axis_more _ _ _ _ _ _ c.loop-length.far _ c.in-Some.ensures.steps c.loop-length.invariant.3 in
+    c.from_residual-in_err-far.ensures ∙ worded_over (span c.args.lens.now (signed c.args.strides.now)) (omega arith)
+
+pub loop-length-preserved : goal.loop-length-preserved
+loop-length-preserved c =
+    let axis = c.in_ok-checked_mul.ensures.1 ∙ adds c.in-Some.length.now _ c.in-Some.stride.now _ c.saturating_sub-most.ensures c.magnitude.ensures in
+    let more = axis_more _ _ _ _ _ _ c.loop-length.far _ c.in-Some.ensures.steps c.loop-length.invariant.3 in
+    let long = ap length c.in-Some.ensures.steps.0 in
+    let wide = ap length c.in-Some.ensures.steps.1 in
+    let told = c.in_ok-far.ensures in
+    ((tt, tt), tt, omega (arith, c.loop-length.invariant.2), omega (arith, told.1), omega (arith, told.0, told.1))
 
 pub returns : goal.returns
-returns g c =
-    let ls = g.D.Dimension.words c.args.dim.now in
-    let zs = signed (g.S.Dimension.words c.args.strides.now) in
-    let end = reach-all nat_abs ls zs c.loop-place.place (omega arith) in
-    let whole : c.loop-place.far ≡ span ls zs = omega (arith, c.loop-place.invariant.0) in
-    limited_fits c.loop-place.far c.loop-place.invariant.1 ∙ ap limited whole
+returns c =
+    let ls = c.loop-length.length-iterator.a.rest.now in
+    let ws = c.loop-length.length-iterator.b.rest.now in
+    let end : length ls ≡ 0 = elim c.in-None.ensures.steps [ inl s ↦ s.1.0 | inr s ↦ omega (arith, s.1.0, c.loop-length.invariant.2) ] in
+    let none = no_axes ls ws end in
+    let whole : c.loop-length.far ≡ span c.args.lens.now (signed c.args.strides.now) = omega (arith, c.loop-length.invariant.3) in
+    worded_fits c.loop-length.far c.loop-length.invariant.4 ∙ ap worded whole

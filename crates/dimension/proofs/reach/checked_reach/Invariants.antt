@@ -1,10 +1,15 @@
-use Rattle.std.proofs.Common.{◌≡◌, ◌+◌, ◌-◌, ◌^◌, ◌≤◌, drop}
+use Rattle.std.proofs.Common.{◌≡◌, ◌+◌, ◌^◌, ◌<◌, length}
 use Rattle.laws.specs.Strides.{signed}
 use Rattle.laws.specs.Opening.{span}
 use Rattle.dimension.proofs.reach.checked_reach.Given as goal
 
-abbrev pub invariant-loop-place : goal.invariant-loop-place
-invariant-loop-place g l =
-    let ls = g.D.Dimension.words l.dim in
-    let zs = signed (g.S.Dimension.words l.strides) in
-    (l.far + span (drop l.place ls) (drop l.place zs) ≡ span ls zs) × (l.far ≤ 2 ^ 63 - 1)
+-- what is left of the axes completes the reach
+abbrev pub invariant-loop-length : goal.invariant-loop-length
+invariant-loop-length l =
+    let ls = l.length-iterator.a.rest.now in
+    let ws = l.length-iterator.b.rest.now in
+    (goal.iterator-loop-length).can_next l.length-iterator
+    × (goal.iterator-loop-length).is_finite l.length-iterator
+    × (length ls ≡ length ws)
+    × (l.far + span ls (signed ws) ≡ span l.lens (signed l.strides))
+    × (l.far < 2 ^ 64)

@@ -1,26 +1,23 @@
-use Rattle.std.proofs.Common.{◌+◌, ◌*◌, drop, ap, ◌∙◌, one-mul, arith}
+use Rattle.std.proofs.Common.{one-mul, refl, arith}
 use Rattle.laws.specs.Lengths.{product, nonzeros}
 use Rattle.laws.proofs.Lengths.{product_more, product-all, part_more, part_fits}
 use Rattle.dimension.proofs.size.size.Goals as goal
 
-pub loop-place-init : goal.loop-place-init
-loop-place-init g c = let one = one-mul (nonzeros (g.D.Dimension.words c.args.dim.now)) in (one-mul _, omega arith)
+pub loop-length-init : goal.loop-length-init
+loop-length-init c = let one = one-mul (nonzeros c.args.lens.now) in (one-mul _, omega arith)
 
 pub overflow_mul-size : goal.overflow_mul-size
-overflow_mul-size g c =
-    let ws = g.D.Dimension.words c.args.dim.now in
-    let fit = part_fits ws c.loop-place.place c.loop-place.size c.word_at-size.result (nonzeros ws) (omega arith) c.word_at-size.ensures c.loop-place.invariant.1 in
+overflow_mul-size c =
+    let fit = part_fits c.args.lens.now c.loop-length.length-index c.loop-length.size _ (nonzeros c.args.lens.now) c.loop-length-test.true refl c.loop-length.invariant.1 in
     omega (arith, c.requires)
 
-pub loop-place-preserved : goal.loop-place-preserved
-loop-place-preserved g c =
-    let ws = g.D.Dimension.words c.args.dim.now in
-    let i = c.loop-place.place in (
-      ap (λ n. c.loop-place.size * n * product (drop (i + 1) ws)) c.word_at-size.ensures ∙ product_more ws i c.loop-place.size (product ws) (omega arith) c.loop-place.invariant.0,
-      part_more ws i c.loop-place.size c.word_at-size.result (nonzeros ws) (omega arith) c.word_at-size.ensures c.loop-place.invariant.1,
+pub loop-length-preserved : goal.loop-length-preserved
+loop-length-preserved c =
+    let ls = c.args.lens.now in
+    let i = c.loop-length.length-index in (
+      product_more ls i c.loop-length.size (product ls) c.loop-length-test.true c.loop-length.invariant.0,
+      part_more ls i c.loop-length.size _ (nonzeros ls) c.loop-length-test.true refl c.loop-length.invariant.1,
     )
 
 pub returns : goal.returns
-returns g c =
-    let ws = g.D.Dimension.words c.args.dim.now in
-    product-all ws c.loop-place.place c.loop-place.size (product ws) (omega arith) c.loop-place.invariant.0
+returns c = product-all c.args.lens.now c.loop-length.length-index c.loop-length.size (product c.args.lens.now) c.loop-length-test.false c.loop-length.invariant.0

@@ -1,18 +1,25 @@
-use Rattle.std.proofs.Common.{◌≡◌, ℕ, ◌-◌, ◌*◌, ◌≤◌, cond, [], length, drop, set, sym, refl, ap, ◌∙◌, subst, mul-one, arith}
+use Rattle.std.proofs.Common.{◌≡◌, ℕ, ◌-◌, ◌*◌, ◌≤◌, Bool, true, false, cond, not, [], length, drop, set, sym, refl, ap, ◌∙◌, subst, mul-one, arith}
+use Rattle.std.specs.Int.{from_bool}
 use Rattle.std.proofs.lemmas.List.{at_drop_all, drop_all, length-set}
 use Rattle.laws.specs.Lengths.{product, some_zero}
 use Rattle.laws.proofs.Strides.{scaled, scaled_row_major, step_fits, step_less, write_less}
 use Rattle.dimension.proofs.strides.row_major.Goals as goal
 
+-- the last axis's stride: 1, or 0 if some length is 0
+first_step : (b : Bool) → from_bool (not b) ≡ cond b 0 1
+first_step true = refl
+first_step false = refl
+
 pub loop-place-init : goal.loop-place-init
 loop-place-init g c =
     let ws = g.D.Dimension.words c.args.dim.now in
-    let n = c.ndim-count.result in
+    let n = c.ndim-place.result in
     let a = cond (some_zero ws) 0 1 in
     let l : length ws ≤ n = omega arith in
+    let step : c.from-step.result ≡ a = c.from-step.ensures ∙ ap (λ b. from_bool (not b)) c.is_empty.ensures ∙ first_step (some_zero ws) in
     let one : product (drop n ws) ≡ 1 = at_drop_all product ws n l in
     let none : scaled a (drop n ws) ≡ [] = at_drop_all (scaled a) ws n l in (
-      c.first_step-step.ensures ∙ sym (mul-one a) ∙ ap (λ m. a * m) (sym one),
+      step ∙ sym (mul-one a) ∙ ap (λ m. a * m) (sym one),
       drop_all n ws (omega arith) ∙ sym none,
       refl,
     )
