@@ -8,11 +8,9 @@ ghost use Rattle.reshaping.specs.Reshapes.{order_of, gridlike, resized, guarded}
 
 use crate::walk::reshape_dim_c;
 use dimension::{
-    Dimension, IxDyn, Order, Reverse, RowFault, lengths_within, max_abs_offset_check_overflow,
-    size_of_shape_checked,
+    Dimension, IxDyn, LIMIT, Order, Reverse, RowFault, lengths_within,
+    max_abs_offset_check_overflow, size_of_shape_checked,
 };
-
-const LIMIT: usize = 1_048_576;
 
 /// Whether lengths and strides are such as every grid has.
 fn gridlike<F: Dimension, S: Dimension>(from: &F, strides: &S) -> bool
@@ -49,13 +47,10 @@ fn regrouped_in<F: Dimension, S: Dimension, E: Dimension>(
     ensures { answered (λ row. signed (listed row)) result ≡ regrouped_in (order_of order) (F.Dimension.words from.now) (signed (S.Dimension.words strides.now)) (E.Dimension.words to.now) }
 {
     match order {
-        Order::RowMajor => {
-            let out = reshape_dim_c(from, strides, to)?;
-            Ok(IxDyn::copy_of(&out))
-        }
+        Order::RowMajor => reshape_dim_c(from, strides, to),
         Order::ColumnMajor => {
             let out = reshape_dim_c(&Reverse(*from), &Reverse(*strides), &Reverse(*to))?;
-            Ok(IxDyn::copy_of(&out.0))
+            Ok(IxDyn::copy_of(&Reverse(out)))
         }
     }
 }
