@@ -1,2 +1,2 @@
-pub mod Readiness
 pub mod Reshapes
+pub mod Turns

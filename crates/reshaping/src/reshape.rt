@@ -47,13 +47,10 @@ fn regrouped_in<F: Dimension, S: Dimension, E: Dimension>(
     ensures { answered (λ row. signed (listed row)) result ≡ regrouped_in (order_of order) (F.Dimension.words from.now) (signed (S.Dimension.words strides.now)) (E.Dimension.words to.now) }
 {
     match order {
-        Order::RowMajor => {
-            let out = reshape_dim_c(from, strides, to)?;
-            Ok(IxDyn::copy_of(&out))
-        }
+        Order::RowMajor => reshape_dim_c(from, strides, to),
         Order::ColumnMajor => {
             let out = reshape_dim_c(&Reverse(*from), &Reverse(*strides), &Reverse(*to))?;
-            Ok(IxDyn::copy_of(&out.0))
+            Ok(IxDyn::copy_of(&Reverse(out)))
         }
     }
 }

@@ -1,48 +1,49 @@
-ghost use Rattle.std.specs.Prelude.{◌≡◌, ◌+◌, ◌<◌, length, drop, MatchResult};
+ghost use Rattle.std.specs.Prelude.{◌≡◌, ◌+◌, ◌<◌, ◌≤◌, length, MatchResult};
 ghost use Rattle.laws.specs.Strides.{signed};
 ghost use Rattle.laws.specs.Reshaping.{Ready};
-ghost use Rattle.laws.specs.ReshapingSteps.{Step, Refused};
+ghost use Rattle.laws.specs.ReshapingSteps.{Refused};
 ghost use Rattle.dimension.specs.Errors.{row_fault};
-ghost use Rattle.reshaping.specs.Readiness.{ready_prop};
+ghost use Rattle.dimension.specs.Rows.{listed};
+ghost use Rattle.reshaping.specs.Turns.{Passed, ready_prop};
 
-use dimension::{Dimension, RowFault, word_at};
+use crate::groups::write_group;
+use dimension::{IxDyn, RowFault};
 
-/// The old and the new axis at which a turn of the walk begins; the lengths from there on have one product in both rows.
+/// The old and the new axes that a turn of the walk begins with; there are some of both, and their lengths have one product.
 #[derive(Drop)]
-pub(crate) struct Turn<'a, F: Dimension, S: Dimension, E: Dimension> {
-    pub(crate) from: &'a F,
-    pub(crate) strides: &'a S,
-    pub(crate) to: &'a E,
-    pub(crate) fi: usize,
-    pub(crate) ti: usize,
-    ghost old: { fi < length (F.Dimension.words from.now) },
-    ghost new: { ti < length (E.Dimension.words to.now) },
-    ghost ready: { Ready (drop fi (F.Dimension.words from.now)) (drop fi (signed (S.Dimension.words strides.now))) (drop ti (E.Dimension.words to.now)) } by { ready_prop _ _ _ },
+pub(crate) struct Turn<'a> {
+    pub(crate) from: &'a [usize],
+    pub(crate) strides: &'a [usize],
+    pub(crate) to: &'a [usize],
+    ghost old: { 0 < length from.now },
+    ghost new: { 0 < length to.now },
+    ghost even: { length strides.now ≡ length from.now },
+    ghost ready: { Ready from.now (signed strides.now) to.now } by { ready_prop _ _ _ },
 }
 
-impl<'a, F: Dimension, S: Dimension, E: Dimension> Turn<'a, F, S, E> {
+impl<'a> Turn<'a> {
     /// Writes the strides of the new axes that the turn passes, and says how many old and new axes it passes.
-    pub(crate) fn pass(&self, out: &mut E) -> Result<(usize, usize), RowFault>
-        requires room { length (E.Dimension.words out.old) ≡ length (E.Dimension.words self.now.to.now) }
-        ensures { MatchResult result (λ p. Step (F.Dimension.words self.now.from.now) (signed (S.Dimension.words self.now.strides.now)) (E.Dimension.words self.now.to.now) self.now.fi self.now.ti (signed (E.Dimension.words out.old)) (signed (E.Dimension.words out.new)) (self.now.fi + p.0) (self.now.ti + p.1)) (λ f. Refused (F.Dimension.words self.now.from.now) (signed (S.Dimension.words self.now.strides.now)) (E.Dimension.words self.now.to.now) self.now.fi self.now.ti (row_fault f)) }
+    pub(crate) fn pass(&self, out: &mut IxDyn) -> Result<(usize, usize), RowFault>
+        requires room { length (listed out.old) + length self.now.to.now ≤ 8 }
+        ensures { MatchResult result (λ p. Passed self.now.from.now (signed self.now.strides.now) self.now.to.now (signed (listed out.old)) (signed (listed out.new)) p.0 p.1) (λ f. Refused self.now.from.now (signed self.now.strides.now) self.now.to.now 0 0 (row_fault f)) }
     {
-        let fd = word_at(self.from, self.fi);
-        let td = word_at(self.to, self.ti);
-        let stride = word_at(self.strides, self.fi);
+        let fd = self.from[0];
+        let td = self.to[0];
+        let stride = self.strides[0];
         if fd == td {
-            let _ = out.set(self.ti, stride);
+            let _ = out.push(stride);
             return Ok((1, 1));
         }
         if fd == 1 {
             return Ok((1, 0));
         }
         if td == 1 {
-            let _ = out.set(self.ti, 1);
+            let _ = out.push(1);
             return Ok((0, 1));
         }
         let (olds, news) = self.group_ends()?;
         let whole = fd as isize * stride.cast_signed();
-        self.write_group(out, news, whole);
+        write_group(&self.to[..news], out, whole);
         Ok((olds, news))
     }
 }

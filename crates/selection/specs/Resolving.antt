@@ -1,8 +1,8 @@
 -- What an element makes of an axis of length d, and why it is refused.
-use Rattle.std.specs.Prelude.{ℕ, ◌<◌, ◌≤◌, cond, ℤ, Some, None, Ok, Err, Option, Result, unsigned_abs}
+use Rattle.std.specs.Prelude.{ℕ, ◌<◌, ◌≤◌, cond, not, List, length, ℤ, Some, None, Ok, Err, Option, Result, ◌==◌, nat_lt, unsigned_abs}
 use Rattle.laws.specs.Faults.{Fault, refuse}
-use Rattle.laws.specs.Elements.{Elem, Slice, Index, NewAxis, resolved, before, ending, ending_before, upper, outside, outside_index, bad_step}
-use Rattle.selection.specs.Errors.{at_place}
+use Rattle.laws.specs.Elements.{Elem, Slice, Index, NewAxis, resolved, before, ending, ending_before, upper, outside, outside_index, bad_step, in_count, out_count}
+use Rattle.selection.specs.Errors.{in_selection, at_place}
 
 -- a place, or none below 0; and the same for an end that may be absent
 abbrev pub placed : ℕ → ℤ → Option ℕ
@@ -43,3 +43,10 @@ abbrev pub elem_fault : ℕ → ℕ → Elem → Option Fault
 elem_fault k d (Slice s e p) = fault_in (ranged k d s e p)
 elem_fault k d (Index i) = fault_in (indexed k d i)
 elem_fault k d NewAxis = None
+
+-- a selection's two counts on axes of these lengths; 13 where it takes another count than there are, then 11 where it leaves more than eight
+abbrev pub counts_fit : List Elem → List ℕ → Result (Unit {0}) Fault
+counts_fit es ds =
+    refuse (not (in_count es == length ds)) (in_selection 13)
+    (refuse (nat_lt 8 (out_count es)) (in_selection 11)
+    (Ok tt))

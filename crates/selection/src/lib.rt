@@ -19,4 +19,4 @@ pub use lent::Lent;
 pub use resolving::{Span, abs_index, resolve_index, resolve_slice};
 pub use rule::AxisRule;
 pub use slice::{Slice, SliceInfoElem};
-pub use slicing::slice_fault;
+pub use slicing::{check_counts, slice_fault};

@@ -2,8 +2,8 @@ ghost use Rattle.std.specs.Prelude.{◌≡◌, length};
 ghost use Rattle.laws.specs.Elements.{in_count};
 ghost use Rattle.laws.specs.Slicing.{first_fault, slice_fault};
 ghost use Rattle.selection.specs.Slices.{elem_of};
-ghost use Rattle.selection.specs.Errors.{found};
-ghost use Rattle.selection.specs.Resolving.{elem_fault};
+ghost use Rattle.selection.specs.Errors.{answered, found};
+ghost use Rattle.selection.specs.Resolving.{counts_fit, elem_fault};
 
 use crate::arg::SliceArg;
 use crate::error::SliceFault;
@@ -39,15 +39,25 @@ fn first_fault<S: SliceArg, D: Dimension>(sel: &S, lens: &D) -> Option<SliceFaul
     None
 }
 
+/// Refuses a selection that takes another count of axes than there are, then one that leaves more than eight.
+pub fn check_counts<S: SliceArg, D: Dimension>(sel: &S, lens: &D) -> Result<(), SliceFault>
+    ensures { answered (λ u. u) result ≡ counts_fit (S.SliceArg.elems sel.now) (D.Dimension.words lens.now) }
+{
+    if sel.in_ndim() != lens.ndim() {
+        return Err(SliceFault::AxisCount);
+    }
+    if sel.out_ndim() > 8 {
+        return Err(SliceFault::RankLimit);
+    }
+    Ok(())
+}
+
 /// Why slicing a grid of these lengths is refused, if it is: the two counts, then the first faulty element.
 pub fn slice_fault<S: SliceArg, D: Dimension>(sel: &S, lens: &D) -> Option<SliceFault>
     ensures { found result ≡ slice_fault (S.SliceArg.elems sel.now) (D.Dimension.words lens.now) }
 {
-    if sel.in_ndim() != lens.ndim() {
-        return Some(SliceFault::AxisCount);
-    }
-    if sel.out_ndim() > 8 {
-        return Some(SliceFault::RankLimit);
+    if let Err(fault) = check_counts(sel, lens) {
+        return Some(fault);
     }
     first_fault(sel, lens)
 }

@@ -15,7 +15,9 @@ ghost use Rattle.grid.specs.Slicing.{Goes, leaving};
 use super::Layout;
 use crate::error::{GridCall, GridFault, at_call};
 use dimension::{Dimension, IxDyn, stride_offset, word_at};
-use selection::{Slice, SliceArg, SliceFault, SliceInfoElem, Span, resolve_index, resolve_slice};
+use selection::{
+    Slice, SliceArg, SliceFault, SliceInfoElem, Span, check_counts, resolve_index, resolve_slice,
+};
 
 /// A slice under way: the axis that comes next, the start, and the axes so far.
 #[derive(Clone, Copy)]
@@ -129,19 +131,6 @@ fn cut_elems<S: SliceArg>(grid: &Layout, sel: &S) -> Result<Cut, SliceFault>
         cut = cut_elem(grid, cut, place, elem)?;
     }
     Ok(cut)
-}
-
-/// Refuses a selection that takes another count of axes than there are, then one that leaves more than eight.
-fn check_counts<S: SliceArg>(sel: &S, lens: &IxDyn) -> Result<(), SliceFault>
-    ensures { sliceAnswered (λ u. u) result ≡ refuse (not (in_count (S.SliceArg.elems sel.now) == length (listed lens.now))) (in_selection 13 None) (refuse (nat_lt 8 (out_count (S.SliceArg.elems sel.now))) (in_selection 11 None) (Ok tt)) }
-{
-    if sel.in_ndim() != lens.ndim() {
-        return Err(SliceFault::AxisCount);
-    }
-    if sel.out_ndim() > 8 {
-        return Err(SliceFault::RankLimit);
-    }
-    Ok(())
 }
 
 impl Layout {

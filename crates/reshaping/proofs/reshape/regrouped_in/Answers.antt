@@ -1,5 +1,4 @@
-use Rattle.std.proofs.Common.{◌≡◌, ℕ, List, reverse, ℤ, Ok, Result, sym, ap, ◌∙◌}
-use Rattle.std.proofs.lemmas.List.{reverse-reverse}
+use Rattle.std.proofs.Common.{◌≡◌, ℕ, List, reverse, ℤ, Result, ap, ◌∙◌}
 use Rattle.std.proofs.lemmas.Result.{err_from_is_err_and}
 use Rattle.laws.specs.Faults.{Fault}
 use Rattle.laws.specs.Strides.{signed}
@@ -16,13 +15,12 @@ turned ls ss ms r h = ap backward (h ∙ ap (λ x. regrouped (reverse ls) x (rev
 
 pub returns-in_err-out-in-ColumnMajor : goal.returns-in_err-out-in-ColumnMajor
 returns-in_err-out-in-ColumnMajor g c =
-    let p = err_from_is_err_and c.from_residual-in_err-out-in-ColumnMajor.result c.from_residual-in_err-out-in-ColumnMajor.ensures.1 in
+    let p = err_from_is_err_and c.from_residual.result c.from_residual.ensures.1 in
     let is = c.in-ColumnMajor.is in
     rw (p.1, p.2, is) (turned (g.F.Dimension.words c.args.from.now) (g.S.Dimension.words c.args.strides.now) (g.E.Dimension.words c.args.to.now) _ c.in_err-out-in-ColumnMajor.ensures)
 
 pub returns-in_ok-out-in-ColumnMajor : goal.returns-in_ok-out-in-ColumnMajor
 returns-in_ok-out-in-ColumnMajor g c =
     let is = c.in-ColumnMajor.is in
-    let out = g.E.Dimension.words c.in_ok-out-in-ColumnMajor.out.0 in
-    let back : reverse (signed (reverse out)) ≡ signed out = ap reverse (signed-reverse out) ∙ reverse-reverse (signed out) in
-    rw (c.copy_of-in-ColumnMajor.ensures, is) (ap Ok (sym back) ∙ turned (g.F.Dimension.words c.args.from.now) (g.S.Dimension.words c.args.strides.now) (g.E.Dimension.words c.args.to.now) _ c.in_ok-out-in-ColumnMajor.ensures)
+    rw (c.copy_of.ensures, is, signed-reverse)
+    (turned (g.F.Dimension.words c.args.from.now) (g.S.Dimension.words c.args.strides.now) (g.E.Dimension.words c.args.to.now) _ c.in_ok-out-in-ColumnMajor.ensures)

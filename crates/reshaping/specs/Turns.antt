@@ -1,9 +1,20 @@
--- A pair of rows is ready in one way only, so that a struct can hold the fact.
-use Rattle.std.specs.Prelude.{◌≡◌, ℕ, List, [], ◌∷◌, ℤ}
+-- What a turn of the walk is given, and what it does.
+use Rattle.std.specs.Prelude.{◌≡◌, ℕ, suc, ◌+◌, ◌<◌, ◌≤◌, List, [], ◌∷◌, length, drop, ℤ}
 use Rattle.std.specs.Coded.{×_prop, Unit-prop, le_prop}
 use Rattle.std.proofs.Props.{props}
 use Rattle.laws.specs.Lengths.{product}
-use Rattle.laws.specs.Reshaping.{Positive, Near, Ready}
+use Rattle.laws.specs.Reshaping.{put, walk, Positive, Near, Ready}
+
+-- A turn passes a old axes and b new ones: the strides of the new ones come after those written before, and the walk goes on behind them.
+pub record Passed (ls : List ℕ) (zs : List ℤ) (ms : List ℕ) (before after : List ℤ) (a b : ℕ) : Type 0 where
+  pub some : 0 < a + b
+  pub olds : a ≤ length ls
+  pub news : b ≤ length ms
+  pub long : length after ≡ length before + b
+  pub ready : Ready (drop a ls) (drop a zs) (drop b ms)
+  pub rest : (n : ℕ) → put before (walk (suc n) ls zs ms) ≡ put after (walk n (drop a ls) (drop a zs) (drop b ms))
+
+-- ---- rows are ready in one way only, so that a struct can hold the fact
 
 positive_prop : (ls : List ℕ) → IsProp (Positive ls)
 positive_prop [] = Unit-prop
