@@ -31,12 +31,3 @@ shape_passed cells ls n e =
     let c = passed_on (ltb limit (nonzeros ls)) (in_rows 12) n (Ok (product ls)) b.1 in
     let last = c.1 in
     (a.0, b.0, c.0, cc)
-
-pub row_passed : (cells size : ℕ) (ls : List ℕ) (zs : List ℤ) (n : ℕ) → Ok n ≡ reaching cells size ls zs
-    → (not (eqb (length ls) (length zs)) ≡ false) × (overflows size ls zs ≡ false)
-row_passed cells size ls zs n e =
-    let a = passed_on (ltb limit cells) (in_rows 12) n _ e in
-    let b = passed_on (not (eqb (length ls) (length zs))) (in_rows 2) n _ a.1 in
-    let c = passed_on (some_negative zs) (in_rows 5) n _ b.1 in
-    let d = passed_on (overflows size ls zs) (in_rows 6) n _ c.1 in
-    (b.0, d.0)

@@ -21,14 +21,3 @@ product_fits a b h k = record { sfits = omega (arith, mag_product a b, mul-le-mu
 -- a product, by what code reads
 pub product-read : (a b y z : ℤ) → SFits w64 a → SFits w64 b → a ≡ y → b ≡ z → to_z w64 (of_z w64 a) *ℤ to_z w64 (of_z w64 b) ≡ y *ℤ z
 product-read a b y z f g p q = simp to_z-of_z (ap₂ (λ (u v : ℤ). u *ℤ v) p q)
-
--- two signed words are one where their bits are
-pub same_bits : (x y : ℤ) → SFits w64 x → SFits w64 y → eqb (of_z w64 x) (of_z w64 y) ≡ same_stride x y
-same_bits (pos a) (pos b) f g = refl
-same_bits (pos a) (negsuc b) f g = ne_eqb _ _ (λ e. omega (arith, f.sfits, g.sfits))
-same_bits (negsuc a) (pos b) f g = ne_eqb _ _ (λ e. omega (arith, f.sfits, g.sfits))
-same_bits (negsuc a) (negsuc b) f g =
-    elim (cases_eq a b) [
-      | inl e ↦ eq-eqb _ _ (ap (λ (n : ℕ). 2 ^ 64 - suc n) e) ∙ sym (eq-eqb a b e)
-      | inr ne ↦ ne_eqb _ _ (λ e. ne (omega (arith, f.sfits, g.sfits))) ∙ sym (ne_eqb a b ne)
-    ]

@@ -38,16 +38,6 @@ pub record Adding (s : Seen) (ix : List ℕ) (i at : ℕ) : Type 0 where
   pub low : down (drop i s.lens) (drop i s.strides) ≤ at
   pub high : at + up (drop i s.lens) (drop i s.strides) ≤ s.cells
 
-pub cell_none : (s : Seen) → Sound s → (ix : List ℕ) (at : ℕ) → s.start ≡ pos at → Adding s ix 0 at
-cell_none s sound ix at e =
-    let low = sound.low in
-    let high = sound.high in
-    record {
-      rest = ap (λ (z : ℤ). z +ℤ offset ix s.strides) (sym e);
-      low = omega (arith, ints);
-      high = omega (arith, ints);
-    }
-
 pub cell-all : (s : Seen) (ix : List ℕ) (i at : ℕ) → length ix ≤ i → Adding s ix i at → cell s ix ≡ pos at
 cell-all s ix i at h a = sym a.rest ∙ at_drop_all (cell_of (pos at) (drop i s.strides)) ix i h ∙ +ℤ_idr (pos at)
 

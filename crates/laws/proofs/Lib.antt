@@ -36,7 +36,6 @@ pub mod ReshapingGroupsStrides
 pub mod ReshapingGroupsClosing
 pub mod ReshapingWalkTurns
 pub mod ReshapingWalkEnds
-pub mod ReshapingWalkWrites
 pub mod ReshapingWalkLoop
 pub mod ReshapingWalkReversed
 pub mod ReshapingWalkReady

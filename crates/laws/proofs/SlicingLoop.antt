@@ -1,12 +1,12 @@
 -- Slicing as a loop over a selection's elements: what holds before each, and what each kind of element makes of it.
-use Rattle.std.proofs.Common.{◌≡◌, ℕ, suc, ◌+◌, ◌-◌, ◌*◌, ◌^◌, ◌<◌, ◌≤◌, true, false, cond, T, List, [], ◌∷◌, ◌++◌, length, get_or, drop, ℤ, pos, ◌+ℤ◌, ◌*ℤ◌, ◌≤ℤ◌, Some, None, Option, sym, refl, ap, ◌∙◌, subst, ap₂, add-one, arith}
-use lib.IntN.{+ℤ_assoc, +ℤ_idr}
-use Rattle.std.proofs.lemmas.List.{append_assoc, append-nil, drop_more, drop_all, length-drop}
+use Rattle.std.proofs.Common.{◌≡◌, ℕ, suc, ◌+◌, ◌-◌, ◌*◌, ◌^◌, ◌<◌, true, false, cond, T, List, [], ◌∷◌, ◌++◌, length, get_or, drop, ℤ, pos, ◌+ℤ◌, ◌*ℤ◌, ◌≤ℤ◌, Some, Option, sym, ap, ◌∙◌, subst, ap₂, add-one, arith}
+use lib.IntN.{+ℤ_assoc}
+use Rattle.std.proofs.lemmas.List.{append_assoc, drop_more, length-drop}
 use Rattle.std.proofs.lemmas.Int.{ints}
 use Rattle.laws.specs.Faults.{Fault, in_selection}
 use Rattle.laws.specs.Space.{Seen, Sound, inside, plus, minus, up, down}
 use Rattle.laws.specs.Elements.{Elem, Slice, Index, NewAxis, in_count, resolved, upper, outside, outside_index, bad_step, entries}
-use Rattle.laws.specs.Slicing.{first_fault, sliced_lens, sliced_strides, sliced_move, sliced, cut_stride, cut_move}
+use Rattle.laws.specs.Slicing.{first_fault, sliced_lens, sliced_strides, sliced_move, cut_stride, cut_move}
 use Rattle.laws.proofs.Axes.{move_high, move_low, index-high, index-low}
 use Rattle.laws.proofs.Resolving.{index_below, range_axis}
 use Rattle.laws.proofs.Limits.{start-inside}
@@ -20,9 +20,6 @@ pub record Cutting (s : Seen) (es : List Elem) (k axis : ℕ) (start : ℤ) (ns 
   pub faults : first_fault k (drop k es) (drop axis s.lens) ≡ first_fault 0 es s.lens
   pub floor : pos (down (drop axis s.lens) (drop axis s.strides)) ≤ℤ start
   pub ceiling : (start +ℤ pos (up (drop axis s.lens) (drop axis s.strides))) ≤ℤ pos s.cells
-
-pub cutting_none : (s : Seen) (es : List Elem) → Sound s → in_count es ≡ length s.lens → Cutting s es 0 0 s.start [] []
-cutting_none s es h c = record { lens = refl; strides = refl; moves = refl; counts = c; faults = refl; floor = h.low; ceiling = h.high }
 
 -- the start so far is a word
 pub cutting_word : (s : Seen) (es : List Elem) (k axis : ℕ) (start : ℤ) (ns : List ℕ) (ys : List ℤ) → Sound s → Cutting s es k axis start ns ys → T (inside (2 ^ 64) start)
@@ -43,18 +40,6 @@ module _ (s : Seen) (es : List Elem) (k axis : ℕ) (start : ℤ) (ns : List ℕ
 
   abbrev es' : List Elem
   es' = drop (k + 1) es
-
-  -- at the end
-  pub cutting-all : length es ≤ k → record { cells = s.cells; start = start; lens = ns; strides = ys } ≡ sliced es s
-  cutting-all h =
-      let e : drop k es ≡ [] = drop_all k es h in
-      let a : ns ≡ sliced_lens es s.lens = sym (append-nil ns) ∙ sym (ap (λ t. ns ++ sliced_lens t ds) e) ∙ g.lens in
-      let b : ys ≡ sliced_strides es s.lens s.strides = sym (append-nil ys) ∙ sym (ap (λ t. ys ++ sliced_strides t ds zs) e) ∙ g.strides in
-      let c : start ≡ s.start +ℤ sliced_move es s.lens s.strides = sym (+ℤ_idr start) ∙ sym (ap (λ t. start +ℤ sliced_move t ds zs) e) ∙ g.moves in
-      λ i. record { cells = s.cells; start = c i; lens = a i; strides = b i }
-
-  pub cutting_passed : length es ≤ k → first_fault 0 es s.lens ≡ None
-  cutting_passed h = sym g.faults ∙ ap (λ t. first_fault k t ds) (drop_all k es h)
 
   -- a new axis
   pub cutting_new : drop k es ≡ NewAxis ∷ drop (k + 1) es → Cutting s es (k + 1) axis start (ns ++ 1 ∷ []) (ys ++ pos 0 ∷ [])

@@ -1,5 +1,5 @@
 -- Products of lengths, tuples within them, and a tuple as a number of mixed radix.
-use Rattle.std.proofs.Common.{◌≡◌, ℕ, zero, suc, ◌+◌, ◌*◌, ◌/◌, ◌%◌, ◌<◌, true, false, ltb, List, [], ◌∷◌, length, get_or, drop, set, sym, refl, ap, ◌∙◌, subst, mul_comm, mul-le-mul, mul-zero, zero-mul, arith}
+use Rattle.std.proofs.Common.{◌≡◌, ℕ, zero, suc, ◌+◌, ◌*◌, ◌/◌, ◌%◌, ◌<◌, true, false, ltb, List, [], ◌∷◌, length, get_or, drop, set, sym, refl, ap, ◌∙◌, subst, mul_comm, mul-le-mul, zero-mul, arith}
 use lib.Arith.{digits_lt, digits_div, digits_mod}
 use Rattle.std.proofs.lemmas.List.{drop_more}
 use Rattle.std.proofs.lemmas.Bool.{and_parts, both_ways, ltb-true, lt-ltb}
@@ -21,11 +21,6 @@ factor_right m n p = factor_left n m (subst (λ k. 0 < k) (mul_comm m n) p)
 pub product_at : (ls : List ℕ) (i : ℕ) → i < length ls → product (drop i ls) ≡ get_or ls i 0 * product (drop (i + 1) ls)
 product_at ls i h = ap product (drop_more ls i 0 h)
 
-pub product_none : (ls : List ℕ) (j : ℕ) → j < length ls → get_or ls j 0 ≡ 0 → product ls ≡ 0
-product_none [] j h e = absurd (omega arith)
-product_none (n ∷ ls) zero h e = ap (λ m. m * product ls) e ∙ zero-mul (product ls)
-product_none (n ∷ ls) (suc j) h e = ap (λ m. n * m) (product_none ls j (omega arith) e) ∙ mul-zero n
-
 pub product-some : (ls : List ℕ) → ((j : ℕ) → j < length ls → 0 < get_or ls j 0) → 0 < product ls
 product-some [] h = omega arith
 product-some (n ∷ ls) h = mul-pos n (product ls) (h 0 (omega arith)) (product-some ls (λ j l. h (suc j) (omega arith)))
@@ -44,12 +39,6 @@ within_at [] (n ∷ ls) j w h = absurd w
 within_at (i ∷ ix) [] j w h = absurd w
 within_at (i ∷ ix) (n ∷ ls) zero w h = w.0
 within_at (i ∷ ix) (n ∷ ls) (suc j) w h = within_at ix ls j w.1 (omega arith)
-
-pub within_from : (ix ls : List ℕ) → length ix ≡ length ls → ((j : ℕ) → j < length ix → get_or ix j 0 < get_or ls j 0) → Within ix ls
-within_from [] [] l h = tt
-within_from [] (n ∷ ls) l h = absurd (omega arith)
-within_from (i ∷ ix) [] l h = absurd (omega arith)
-within_from (i ∷ ix) (n ∷ ls) l h = (h 0 (omega arith), within_from ix ls (omega arith) (λ j p. h (suc j) (omega arith)))
 
 pub within-set : (ix ls : List ℕ) (j v : ℕ) → Within ix ls → v < get_or ls j 0 → Within (set ix j v) ls
 within-set [] [] j v w h = tt

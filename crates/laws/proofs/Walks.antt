@@ -1,32 +1,15 @@
 -- The walk from tuple to tuple in row-major order.
-use Rattle.std.proofs.Common.{◌≡◌, ℕ, zero, suc, ◌+◌, ◌-◌, ◌*◌, ◌<◌, ◌≤◌, List, [], ◌∷◌, ◌++◌, length, get_or, take, drop, set, replicate, Some, None, Option, sym, refl, ap, ◌∙◌, subst, add-mul, one-mul, zero-mul, add-one, arith, MatchOption}
-use Rattle.std.proofs.lemmas.List.{at_drop_all, replicate_more, take_all, take_more_set}
+use Rattle.std.proofs.Common.{◌≡◌, ℕ, zero, suc, ◌+◌, ◌-◌, ◌*◌, ◌<◌, ◌≤◌, List, [], ◌∷◌, length, get_or, drop, set, replicate, Some, None, Option, sym, refl, ap, ◌∙◌, subst, add-mul, one-mul, zero-mul, add-one, arith, MatchOption}
+use Rattle.std.proofs.lemmas.List.{at_drop_all}
 use Rattle.laws.specs.Lengths.{product}
 use Rattle.laws.specs.Tuples.{Within, place}
 use Rattle.laws.proofs.Tuples.{place_lt, product_at}
 
 -- ---- the first tuple
 
-pub first-within : (ls : List ℕ) → ((j : ℕ) → j < length ls → 0 < get_or ls j 0) → Within (replicate (length ls) 0) ls
-first-within [] h = tt
-first-within (n ∷ ls) h = (h 0 (omega arith), first-within ls (λ j l. h (suc j) (omega arith)))
-
 pub first-place : (ls : List ℕ) → place (replicate (length ls) 0) ls ≡ 0
 first-place [] = refl
 first-place (n ∷ ls) = omega (arith, zero-mul (product ls), first-place ls)
-
--- a loop that writes 0 at each axis, from the first: one axis more, and what the tuple is at the end
-pub zeros_more : (ix : List ℕ) (i : ℕ) → take i ix ≡ replicate i 0 → i < length ix → take (i + 1) (set ix i 0) ≡ replicate (i + 1) 0
-zeros_more ix i e h = take_more_set ix i 0 h ∙ ap (λ (r : List ℕ). r ++ 0 ∷ []) e ∙ replicate_more i 0
-
-pub zeros-all : (ix ls : List ℕ) (i : ℕ) → take i ix ≡ replicate i 0 → length ix ≡ i → length ls ≡ i → ix ≡ replicate (length ls) 0
-zeros-all ix ls i e l m = sym (take_all i ix (omega arith)) ∙ e ∙ ap (λ n. replicate n 0) (sym m)
-
--- so at the end it is the first tuple
-pub first-all : (ix ls : List ℕ) (i : ℕ) → take i ix ≡ replicate i 0 → length ix ≡ i → length ls ≡ i → ((j : ℕ) → j < i → 0 < get_or ls j 0) → Within ix ls × (place ix ls ≡ 0)
-first-all ix ls i e l m h =
-    let is : ix ≡ replicate (length ls) 0 = zeros-all ix ls i e l m in
-    (subst (λ (t : List ℕ). Within t ls) (sym is) (first-within ls (λ j lt. h j (omega arith))), ap (λ (t : List ℕ). place t ls) is ∙ first-place ls)
 
 -- ---- the next tuple: a loop from the last axis, for which one step of axis j is all that is missing
 
