@@ -1,3 +1,5 @@
+ghost use Rattle.std.specs.Prelude.{◌≡◌, T};
+
 use dimension::size_of_shape_checked;
 use grid::Layout;
 use script::{Change, Filling, Selection, Value};
@@ -29,7 +31,9 @@ pub(crate) struct Filled {
 
 impl Filled {
     /// Whether this filling was the same.
-    fn is_same(&self, filling: &Filling) -> bool {
+    fn is_same(&self, filling: &Filling) -> bool
+        ensures { T result → self.now.value ≡ filling.now.value.value }
+    {
         self.value == filling.value.value && self.selection == filling.selection
     }
 }
