@@ -5,7 +5,12 @@ use std::test::Fail;
 
 #[test]
 fn filling_reaches_the_grid_and_no_other_cell(rt: HostRuntime) -> Result<(), Fail> {
-    let grid = Layout::open(8, 8, &Dim { index: [2, 2] }, &Strides::Custom(Dim { index: [4, 2] }))?;
+    let grid = Layout::open(
+        8,
+        8,
+        &Dim { index: [2, 2] },
+        &Strides::Custom(Dim { index: [4, 2] }),
+    )?;
     let mut amounts = [1i64; 8];
     fill(&grid, &mut amounts, -7)?;
     assert!(rt; amounts == [-7, 1, -7, 1, -7, 1, -7, 1]);
@@ -52,7 +57,12 @@ fn reading_finds_the_value_or_none(rt: HostRuntime) -> Result<(), Fail> {
 
 #[test]
 fn pay_lines_are_cells_too(rt: HostRuntime) -> Result<(), Fail> {
-    let grid = Layout::open(3, 16, &Dim { index: [2] }, &Strides::Custom(Dim { index: [2] }))?;
+    let grid = Layout::open(
+        3,
+        16,
+        &Dim { index: [2] },
+        &Strides::Custom(Dim { index: [2] }),
+    )?;
     let none = PayLine {
         person: 0,
         code: 0,

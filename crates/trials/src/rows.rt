@@ -55,7 +55,9 @@ fn sizes_and_their_limit(rt: HostRuntime) -> Result<(), Fail> {
         Err(RowFault::Overflow)
     );
     assert_eq!(rt;
-        size_of_shape_checked(&Dim { index: [usize::MAX, 0] }),
+        size_of_shape_checked(&Dim {
+            index: [usize::MAX, 0]
+        }),
         Err(RowFault::Overflow)
     );
     Ok(())
@@ -76,7 +78,12 @@ fn strides_of_both_orders(rt: HostRuntime) -> Result<(), Fail> {
     );
     let empty = default_strides(&Dim { index: [0, 3] })?;
     assert_eq!(rt; empty.index, [0, 0]);
-    assert!(rt; default_strides(&Dim { index: [1 << 40, 1 << 40] }).is_err());
+    assert!(rt;
+        default_strides(&Dim {
+            index: [1 << 40, 1 << 40]
+        })
+        .is_err()
+    );
     Ok(())
 }
 
@@ -103,7 +110,13 @@ fn reach_and_its_limits(rt: HostRuntime) {
         Err(RowFault::Overflow)
     );
     assert_eq!(rt;
-        max_abs_offset_check_overflow(1, &Dim { index: [2] }, &Dim { index: [usize::MAX] }),
+        max_abs_offset_check_overflow(
+            1,
+            &Dim { index: [2] },
+            &Dim {
+                index: [usize::MAX]
+            }
+        ),
         Ok(1)
     );
     assert_eq!(rt;
@@ -112,7 +125,9 @@ fn reach_and_its_limits(rt: HostRuntime) {
     );
     assert_eq!(rt; strides_non_negative(&Dim { index: [1, MOST] }), Ok(()));
     assert_eq!(rt;
-        strides_non_negative(&Dim { index: [1, MOST + 1] }),
+        strides_non_negative(&Dim {
+            index: [1, MOST + 1]
+        }),
         Err(RowFault::Unsupported)
     );
 }
