@@ -9,7 +9,7 @@ use Rattle.grid.specs.Layouts.{seen}
 use Rattle.grid.proofs.Layouts.{sound}
 
 module _ {X : Type 0} (l : Layout) (xs : List X) (ix : List ℕ) (whole : length xs ≡ (seen l).cells) where
-  -- the cell of a tuple is one of the lent cells
+  -- a tuple's cell is a lent one
   pub at_within : (k : ℕ) → Some k ≡ cell_at (seen l) ix → k < length xs
   at_within k e =
       let there = cell_at_some (seen l) ix k (sym e) in

@@ -12,7 +12,7 @@ use crate::walk::{first_index, next_for};
 use grid::{GridCall, GridFault, Layout};
 use selection::SliceArg;
 
-/// Gives the grid's cells, and no others, one value.
+/// Writes one value to every cell of the grid, and to no cell besides.
 pub fn fill<T: Copy>(layout: &Layout, cells: &mut [T], value: T) -> Result<(), GridFault>
     ensures answer { answered (λ u. u) result ≡ calling Fill (lent (seen layout.now) (length cells.old)) }
     ensures after { cells.new ≡ filled (seen layout.now) value cells.old }
@@ -29,7 +29,7 @@ pub fn fill<T: Copy>(layout: &Layout, cells: &mut [T], value: T) -> Result<(), G
     Ok(())
 }
 
-/// Gives the cells that a selection takes of the grid, and no others, one value.
+/// Writes one value to every cell that a selection takes of the grid, and to no cell besides.
 pub fn fill_selection<T: Copy, S: SliceArg>(
     layout: &Layout,
     sel: &S,

@@ -5,7 +5,7 @@ ghost use Rattle.grid.specs.Layouts.{seen};
 
 use grid::{Cause, GridCall, GridFault, Layout};
 
-/// Refuses another count of lent cells than the layout's.
+/// Refuses lent cells of which there are more or fewer than the layout was opened over.
 pub(crate) fn check_lent(layout: &Layout, count: usize, call: GridCall) -> Result<(), GridFault>
     ensures { answered (λ u. u) result ≡ calling call (lent (seen layout.now) count) }
 {

@@ -5,7 +5,7 @@ use grid::Layout;
 
 mod reads;
 
-/// Lent cells beside a copy of the layout that says where they lie.
+/// Lent cells, with a layout of the reader's own that says where they lie.
 #[derive(Drop)]
 pub struct Reader<'a, T> {
     cells: &'a [T],

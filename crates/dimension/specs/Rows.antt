@@ -25,6 +25,6 @@ pushed ws w = cond (nat_lt (length ws) 8) (ws ++ w ∷ []) ws
 abbrev pub zeros : ℕ → Result (List ℕ) Fault
 zeros n = refuse (nat_lt 8 n) (in_rows 11) (Ok (replicate n 0))
 
--- the strides of an order; 6 where the product of the nonzero lengths is above 2^63 − 1
+-- the strides of an order; 6 where the nonzero lengths multiply to more than 2^63 − 1
 abbrev pub strides_of : (List ℕ → List ℕ) → List ℕ → Result (List ℕ) Fault
 strides_of order ws = refuse (nat_lt most (nonzeros ws)) (in_rows 6) (Ok (order ws))

@@ -2,7 +2,7 @@ ghost use Rattle.std.specs.Prelude.{◌≡◌, ℕ, List, length, Option, nat_lt
 ghost use Rattle.std.specs.List.{slice_get};
 ghost use Rattle.dimension.specs.Owed.{Owed};
 
-/// A row of at most eight words; code above a row is right by its list alone.
+/// A row has at most eight words, and other code may go by nothing else of it.
 pub trait Dimension: Copy {
     /// The row's words, in order.
     ghost words: { Self → List ℕ };
@@ -21,11 +21,11 @@ pub trait Dimension: Copy {
     fn ndim(&self) -> usize
         ensures { result ≡ length (words self.now) };
 
-    /// The word at a place, or none past the end.
+    /// The word at a place of the row, if it has such a place.
     fn get(&self, place: usize) -> Option<usize>
         ensures { result ≡ slice_get (words self.now) place };
 
-    /// Writes one word; past the end it answers no and changes nothing.
+    /// Writes one word, or says no and leaves the row alone where there is no such place.
     fn set(&mut self, place: usize, word: usize) -> bool
         ensures after { words self.new ≡ slice_set (words self.old) place word }
         ensures answer { result ≡ nat_lt place (length (words self.old)) };

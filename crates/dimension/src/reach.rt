@@ -14,7 +14,7 @@ use crate::dynindeximpl::IxDyn;
 use crate::error::RowFault;
 use crate::size::{MOST, size_of_shape_checked};
 
-/// A stride's magnitude, the word read as two's complement.
+/// The magnitude of a stride, which is kept as its word of two's complement.
 pub fn magnitude(word: usize) -> usize
     ensures { result ≡ unsigned_abs (to_z w64 word) }
 {
@@ -71,7 +71,7 @@ pub fn max_abs_offset_check_overflow<D: Dimension, S: Dimension>(
     Ok(far)
 }
 
-/// Whether some word, read as two's complement, is negative.
+/// Whether some word stands for a negative number in two's complement.
 fn has_negative(strides: &[usize]) -> bool
     ensures { result ≡ list_any (λ w. nat_lt 9223372036854775807 w) strides.now }
 {
@@ -88,7 +88,7 @@ pub fn strides_non_negative<S: Dimension>(strides: &S) -> Result<(), RowFault>
     Ok(())
 }
 
-/// Whether the magnitude of each word, read as two's complement, is within a limit.
+/// Whether each word stands for a number in two's complement whose magnitude is within a limit.
 fn all_within(strides: &[usize], limit: usize) -> bool
     ensures { result ≡ list_all (λ w. nat_le (unsigned_abs (to_z w64 w)) limit) strides.now }
 {

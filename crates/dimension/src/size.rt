@@ -14,7 +14,7 @@ pub(crate) const MOST: usize = 9_223_372_036_854_775_807;
 /// The most that a grid's cells, size and strides may be.
 pub const LIMIT: usize = 1_048_576;
 
-/// The word at a place, or 0 past the end.
+/// The word at a place, or 0 where the row has no such place.
 pub fn word_at<D: Dimension>(row: &D, place: usize) -> usize
     ensures { result ≡ slice_index (D.Dimension.words row.now) place }
 {

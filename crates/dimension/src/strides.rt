@@ -23,7 +23,7 @@ fn row_major<D: Dimension>(dim: &D) -> D
     out
 }
 
-/// Row-major strides: the products of all later lengths.
+/// Row-major strides: for each axis, what the lengths after it multiply to.
 pub fn default_strides<D: Dimension>(dim: &D) -> Result<D, RowFault>
     ensures { answered D.Dimension.words result ≡ strides_of row_major (D.Dimension.words dim.now) }
 {
@@ -31,7 +31,7 @@ pub fn default_strides<D: Dimension>(dim: &D) -> Result<D, RowFault>
     Ok(row_major(dim))
 }
 
-/// Column-major strides: the products of all earlier lengths.
+/// Column-major strides: for each axis, what the lengths before it multiply to.
 pub fn fortran_strides<D: Dimension>(dim: &D) -> Result<D, RowFault>
     ensures { answered D.Dimension.words result ≡ strides_of column_major (D.Dimension.words dim.now) }
 {

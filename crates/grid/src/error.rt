@@ -42,7 +42,7 @@ pub enum Cause {
     Outside(usize),
 }
 
-/// What a refused grid call hands back: why, and by which call.
+/// The fault of a grid call: why it is refused, and which call it is.
 #[derive(Clone, Copy, PartialEq, Eq, Debug)]
 pub struct GridFault {
     pub cause: Cause,

@@ -21,7 +21,7 @@ length_below (n ∷ ls) (suc j) = omega (arith, one-mul (nonzeros ls), mul-le-mu
 pub length-small : (s : Seen) (axis : ℕ) → Sound s → len_at s axis ≤ 1048576
 length-small s axis h = omega (arith, length_below s.lens axis, h.small)
 
--- only an axis of length at most 1 may have any stride
+-- the strides that have no limit are those of axes no longer than 1
 pub stride_small : (s : Seen) (axis : ℕ) → Sound s → 1 < len_at s axis → nat_abs (stride_at s axis) ≤ 1048576
 stride_small s axis h long =
     go (stride_at s axis) (len_at s axis - 1) (up s.lens s.strides) (down s.lens s.strides) s.start s.cells (omega arith)

@@ -136,7 +136,7 @@ up-laters (n ∷ ls) p =
     let first : n - 1 < n = omega (arith, factor_left n (product ls) p) in
     digits_lt first (up-laters ls (factor_right n (product ls) p))
 
--- the cell of a tuple is its place
+-- a tuple's cell is its place
 pub dot_laters : (ix ls : List ℕ) → dot ix (laters ls) ≡ place ix ls
 dot_laters [] ls = refl
 dot_laters (i ∷ ix) [] = refl

@@ -1,4 +1,4 @@
--- The reach of the other axes of no greater magnitude, as a loop over all axes adds it up.
+-- The reach of those other axes whose magnitude is not greater, as a loop over all axes adds it up.
 use Rattle.std.proofs.Common.{◌≡◌, ℕ, zero, suc, ◌+◌, ◌-◌, ◌*◌, ◌<◌, ◌≤◌, Bool, true, false, cond, eqb, leb, List, [], ◌∷◌, ℤ, nat_abs, refl, ap, ◌∙◌, arith}
 use Rattle.std.proofs.lemmas.Bool.{eq-eqb, ne_eqb}
 use Rattle.laws.specs.Opening.{span, share, span_to, span_others}

@@ -22,7 +22,7 @@ offset_dot [] ws = refl
 offset_dot (i ∷ ix) [] = refl
 offset_dot (i ∷ ix) (w ∷ ws) = rw (offset_dot ix ws)
 
--- no two tuples share a cell if no two have one sum
+-- where different tuples have different sums, they have different cells
 pub dot_distinct : (ls ws : List ℕ) → ((ix jx : List ℕ) → Within ix ls → Within jx ls → dot ix ws ≡ dot jx ws → ix ≡ jx) → Distinct ls (map pos ws)
 dot_distinct ls ws same t =
     let e : dot t.one ws ≡ dot t.other ws = cc (offset_dot t.one ws, offset_dot t.other ws) in
@@ -116,7 +116,7 @@ apart ls ws some e k h l =
     let off : leb (get_or ws k 0) (span_others k (get_or ws k 0) ls (map pos ws)) ≡ false = rw (lt-ltb 1 (get_or ls k 0) l, get_or-map pos ws k 0) at free in
     leb-false (get_or ws k 0) (span_others k (get_or ws k 0) ls (map pos ws)) off
 
--- no two tuples share a cell if no overlap is found
+-- where no overlap is found, different tuples have different cells
 pub no_overlap : (ls ws : List ℕ) → length ls ≡ length ws → overlaps ls (map pos ws) ≡ false → Distinct ls (map pos ws)
 unfolding Greatest
 no_overlap ls ws paired e = dot_distinct ls ws same

@@ -1,4 +1,4 @@
--- What the walk of reshaping needs, where the reach and the product of the nonzero lengths are within the limit, as in every grid.
+-- What the walk of reshaping needs, where neither the reach nor what the nonzero lengths multiply to passes the limit, as in every grid.
 use Rattle.std.proofs.Common.{◌≡◌, ℕ, zero, suc, ◌+◌, ◌-◌, ◌*◌, ◌<◌, ◌≤◌, List, [], ◌∷◌, length, ℤ, pos, negsuc, ◌+ℤ◌, ◌≤ℤ◌, sym, mul-zero, arith}
 use Rattle.std.proofs.lemmas.Int.{ints}
 use Rattle.laws.specs.Lengths.{product, nonzeros}

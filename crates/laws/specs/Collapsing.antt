@@ -22,7 +22,7 @@ axis_fault s axis = cond (nat_lt axis (length s.lens)) None (Some (outside_axis 
 abbrev pub collapse_fault : ℕ → ℕ → Seen → Option Fault
 collapse_fault axis index s = or_else (axis_fault s axis) (cond (nat_lt index (len_at s axis)) None (Some (outside_axis axis)))
 
--- the axis keeps its stride and gets length 1, and the start moves by index × stride
+-- of the axis length 1 is left, with its stride, and the start goes that many strides on as the index says
 abbrev pub collapsed : ℕ → ℕ → Seen → Seen
 collapsed axis index s = record {
   cells = s.cells;

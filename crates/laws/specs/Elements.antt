@@ -1,7 +1,7 @@
 -- The elements of a selection, and what each makes of an axis.
 use Rattle.std.specs.Prelude.{ℕ, suc, ◌+◌, ◌-◌, ◌*◌, ◌/◌, max, Bool, false, ◌||◌, List, [], ◌∷◌, ℤ, pos, negsuc, Some, None, Option, ◌==◌, nat_lt, unsigned_abs}
 
--- a range with start, end or none, and step; an index; or a new axis
+-- an element takes a range of an axis, whose end may be absent, or one index of it, or it adds an axis
 pub data Elem : Type 0 where
   Slice : ℤ → Option ℤ → ℤ → Elem
   Index : ℤ → Elem
@@ -23,7 +23,7 @@ out_count (NewAxis ∷ es) = suc (out_count es)
 
 -- ---- one element on an axis of length d
 
--- a negative place p counts from the end: it becomes d + p
+-- to a place below 0, which counts from the end, d is added
 abbrev pub resolved : ℕ → ℤ → ℕ
 resolved d (pos n) = n
 resolved d (negsuc n) = d - suc n
@@ -33,7 +33,7 @@ abbrev pub before : ℕ → ℤ → Bool
 before d (pos n) = false
 before d (negsuc n) = nat_lt d (suc n)
 
--- an absent end is d
+-- a range without an end goes on to d
 abbrev pub ending : ℕ → Option ℤ → ℕ
 ending d None = d
 ending d (Some e) = resolved d e
@@ -42,11 +42,11 @@ abbrev pub ending_before : ℕ → Option ℤ → Bool
 ending_before d None = false
 ending_before d (Some e) = before d e
 
--- an end before the start becomes the start
+-- where a range stops, which is at its start if its end lies before that
 abbrev pub upper : ℕ → ℤ → Option ℤ → ℕ
 upper d s e = max (resolved d s) (ending d e)
 
--- whether a range, or an index, is outside its axis
+-- whether a range, or an index, leaves its axis
 abbrev pub outside : ℕ → ℤ → Option ℤ → Bool
 outside d s e = before d s || (ending_before d e || nat_lt d (upper d s e))
 

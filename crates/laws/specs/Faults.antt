@@ -1,4 +1,4 @@
--- What a refused call hands back.
+-- The faults that calls are refused with.
 use Rattle.std.specs.Prelude.{ℕ, Bool, cond, Some, None, Ok, Err, Option, Result}
 
 -- the layer where a fault arose
@@ -7,7 +7,7 @@ pub data Layer : Type 0 where
   InSelection : Layer
   InGrid : Layer
 
--- a fault: its number, the layer where it arose, and the place that it names, if it names one
+-- a fault has a number, the layer that found it and, if it names one, a place
 pub record Fault : Type 0 where
   pub number : ℕ
   pub layer : Layer

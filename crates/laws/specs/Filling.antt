@@ -11,7 +11,7 @@ pub record Reaches (s : Seen) (ix : List ℕ) (k : ℕ) : Type 0 where
   pub within : Within ix s.lens
   pub here : cell s ix ≡ pos k
 
--- a cell lies in a grid where some tuple reaches it
+-- the cells of a grid are those that its tuples reach
 abbrev pub Lies : Seen → ℕ → Type 0
 Lies s k = (ix : List ℕ) × Reaches s ix k
 

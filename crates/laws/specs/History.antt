@@ -10,7 +10,7 @@ use Rattle.laws.specs.Model.{Model, started, followed}
 abbrev pub model : Seen → List Call → Model
 model fresh cs = followed (started fresh.lens) cs (taken fresh cs)
 
--- only fresh cells, and each once, all of them lent; the model's lengths; and each tuple's cell is the fresh grid's at its fresh tuple
+-- no cell that the fresh grid does not reach, none for two tuples, and all lent; the lengths of the model; and for each tuple the cell of the fresh tuple that it stands for
 pub record Kept (fresh : Seen) (cs : List Call) : Type 0 where
   pub only : (k : ℕ) → Lies (run fresh cs) k → Lies fresh k
   pub once : (k : ℕ) (ix jx : List ℕ) → Reaches (run fresh cs) ix k → Reaches (run fresh cs) jx k → ix ≡ jx

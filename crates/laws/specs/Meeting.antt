@@ -13,17 +13,17 @@ use Rattle.laws.specs.Slicing.{sliced_lens, sliced_back}
 abbrev pub Chosen : List ℕ → List Elem → List ℕ → Type 0
 Chosen ds es t = (u : List ℕ) × Within u (sliced_lens es ds) × (sliced_back es ds u ≡ t)
 
--- some tuple within the lengths is chosen by both
+-- there is a tuple of these lengths that both selections choose
 abbrev pub Meet : List ℕ → List Elem → List Elem → Type 0
 Meet ds es us = (t : List ℕ) × Within t ds × Chosen ds es t × Chosen ds us t
 
--- some cell lies in both grids
+-- the two grids have a cell in common
 abbrev pub Shared : Seen → Seen → Type 0
 Shared a b = (k : ℕ) × Lies a k × Lies b k
 
 -- ---- how it is told, axis by axis
 
--- new axes are passed over
+-- the elements without the new axes
 abbrev pub axes_of : List Elem → List Elem
 axes_of [] = []
 axes_of (NewAxis ∷ es) = axes_of es

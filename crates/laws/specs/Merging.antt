@@ -15,19 +15,19 @@ same_stride (pos a) (negsuc b) = false
 same_stride (negsuc a) (pos b) = false
 same_stride (negsuc a) (negsuc b) = a == b
 
--- yes if take's length is at most 1, or into's is, or take's stride is into's length × stride;
--- with one axis for both, only if its length is at most 1
+-- a merge is done where take or into is no longer than 1, or where take's stride is what length and stride of into multiply to;
+-- an axis is merged with itself only where it is no longer than 1
 abbrev pub mergeable : ℕ → ℕ → Seen → Bool
 mergeable take into s =
     nat_le (len_at s take) 1
     || cond (take == into) false (nat_le (len_at s into) 1 || same_stride (stride_at s take) (pos (len_at s into) *ℤ stride_at s into))
 
--- into gets take's stride if into alone has a length of at most 1
+-- the stride of into after a yes, which is take's where take is longer than 1 and into is not
 abbrev pub merged_stride : ℕ → ℕ → Seen → ℤ
 merged_stride take into s =
     cond (nat_le (len_at s take) 1) (stride_at s into) (cond (nat_le (len_at s into) 1) (stride_at s take) (stride_at s into))
 
--- into's length becomes the product, then take's becomes 1, or 0 if the product is 0
+-- the lengths after a yes: into has the product of both, and then take has 1, but 0 where that product is 0
 abbrev pub merged_lens : ℕ → ℕ → List ℕ → List ℕ
 merged_lens take into ds =
     slice_set (slice_set ds into (slice_index ds into * slice_index ds take)) take (cond ((slice_index ds into * slice_index ds take) == 0) 0 1)
@@ -51,7 +51,7 @@ merged_back take into ds t =
 abbrev grid : List ℕ → List ℤ → Seen
 grid ls zs = record { cells = 6; start = pos 0; lens = ls; strides = zs }
 
--- an axis is merged with itself exactly where its length is at most 1, and then nothing changes
+-- an axis no longer than 1 is merged with itself, a longer one is not, and nothing changes either way
 pub one_axis_long : mergeable 1 1 (grid (0 ∷ 3 ∷ []) (pos 0 ∷ pos 0 ∷ [])) ≡ false
 one_axis_long = refl
 

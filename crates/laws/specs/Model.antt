@@ -1,4 +1,4 @@
--- The plain model of a grid's history: lengths, and for each tuple within them a tuple of the fresh grid.
+-- The plain model of a grid's history, which knows lengths and the tuple of the fresh grid that each tuple stands for.
 use Rattle.std.specs.Prelude.{ℕ, zero, suc, ◌+◌, ◌*◌, ◌/◌, ◌%◌, Bool, true, false, cond, ◌&&◌, List, [], ◌∷◌, map, length, ℤ, pos, negsuc, ◌+ℤ◌, ◌-ℤ◌, ◌*ℤ◌, ◌==◌, nat_le, nat_lt, slice_index, slice_set, unsigned_abs}
 use Rattle.std.specs.List.{range_with_len}
 use Rattle.laws.specs.Elements.{Elem, Slice, Index, NewAxis, resolved, upper}
@@ -9,13 +9,13 @@ pub record Model : Type 0 where
   pub lens : List ℕ
   pub fresh : List ℕ → List ℕ
 
--- at first each tuple is its own fresh tuple
+-- before any call each tuple stands for itself
 abbrev pub started : List ℕ → Model
 started ds = record { lens = ds; fresh = λ t. t }
 
 -- ---- slicing
 
--- the index of entry j in a range from a to b: the start, or for a negative step the end − 1, plus j × step
+-- the index of entry j in a range from a to b: j steps on from a, or from b − 1 where the step is below 0
 abbrev pub stepped : ℕ → ℕ → ℤ → ℕ → ℤ
 stepped a b (pos n) j = pos a +ℤ pos j *ℤ pos n
 stepped a b (negsuc n) j = (pos b -ℤ pos 1) +ℤ pos j *ℤ negsuc n
@@ -43,7 +43,7 @@ lens_by (Slice s e p ∷ es) (d ∷ ds) = kept_by (resolved d s) (upper d s e) p
 lens_by (Index i ∷ es) [] = []
 lens_by (Index i ∷ es) (d ∷ ds) = lens_by es ds
 
--- a range's entry becomes its index, an index's place returns, and the entries of new axes vanish
+-- an entry of a range turns to the index that it stands for, an index is put in again, and what belongs to a new axis is left out
 abbrev pub back_by : List Elem → List ℕ → List ℕ → List ℕ
 back_by [] ds t = []
 back_by (NewAxis ∷ es) ds [] = []
@@ -61,12 +61,12 @@ abbrev pub changed : ℕ → ℕ → ℕ → ℕ → List ℕ → List ℕ
 changed take there into here ns =
     map (λ k. cond (k == take) there (cond (k == into) here (slice_index ns k))) (range_with_len 0 (length ns))
 
--- take's length becomes 1, or 0 if the product is 0, and into's the product
+-- the lengths after a merge: the product of both at into, and at take 1, but 0 where that product is 0
 abbrev pub lens_joined : ℕ → ℕ → List ℕ → List ℕ
 lens_joined take into ds =
     changed take (cond ((slice_index ds into * slice_index ds take) == 0) 0 1) into (slice_index ds into * slice_index ds take) ds
 
--- with n into's old length, entry j at into becomes j div n at take and j mod n at into; with one axis for both the tuple stays
+-- an entry at into is divided by the length that into had, the quotient going to take and the rest staying; an axis merged with itself changes no tuple
 abbrev pub back_joined : ℕ → ℕ → List ℕ → List ℕ → List ℕ
 back_joined take into ds t =
     cond (take == into) t (changed take (slice_index t into / slice_index ds into) into (slice_index t into % slice_index ds into) t)
@@ -90,7 +90,7 @@ abbrev pub follow : Bool → Call → Model → Model
 follow true c m = record { lens = new_lens c m.lens; fresh = λ t. m.fresh (back c m.lens t) }
 follow false c m = m
 
--- fed the calls' arguments, and of each answer only whether the call was accepted
+-- what the model comes to by the calls' arguments, knowing no more of each answer than whether the call was accepted
 abbrev pub followed : Model → List Call → List Bool → Model
 followed m [] bs = m
 followed m (c ∷ cs) [] = m

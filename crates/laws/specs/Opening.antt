@@ -64,7 +64,7 @@ span_others k m (n ∷ ns) [] = 0
 span_others zero m (n ∷ ns) (z ∷ zs) = span_to m ns zs
 span_others (suc k) m (n ∷ ns) (z ∷ zs) = share m n z + span_others k m ns zs
 
--- whether axis k is longer than 1 and its magnitude at most the reach of the other axes of no greater magnitude
+-- whether axis k is longer than 1 and the others of its magnitude or less reach at least that far
 abbrev pub crowded : List ℕ → List ℤ → ℕ → Bool
 crowded ls zs k =
     nat_lt 1 (slice_index ls k) && nat_le (unsigned_abs (slice_index_or zs k (pos 0))) (span_others k (unsigned_abs (slice_index_or zs k (pos 0))) ls zs)

@@ -13,7 +13,7 @@ use Rattle.laws.specs.Posting.{posted, EitherOrder}
 abbrev pub Accepts : Seen → List Elem → Type 0
 Accepts s es = slice_fault es s.lens ≡ None
 
--- meeting is exact: it says whether some cell lies in both slices; fillings fill the slice; and where two selections do not meet, their fillings commute
+-- the verdict of meeting is whether the two slices have a cell in common; fillings fill the slice; and after a no the two fillings commute
 pub record Holds (X : Type 0) (s : Seen) : Type 0 where
   pub said : (es us : List Elem) → Accepts s es → Accepts s us → Decides (meeting es us s.lens) (Meet s.lens es us)
   pub meets : (es us : List Elem) → Accepts s es → Accepts s us → Meet s.lens es us ↔ Shared (sliced es s) (sliced us s)

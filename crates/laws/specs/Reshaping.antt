@@ -40,7 +40,7 @@ tuple_at ColumnMajor ns k = column_tuple ns k
 
 -- ---- groups of axes of one product
 
--- the stride to which the next axis of an old group is held: a length 1 is left out, and of any other next length × next stride must be the stride before
+-- the stride to which the next axis of an old group is held: a length 1 is left out, and of any other axis length and stride multiplied must give the stride before
 abbrev pub linked : ℕ → ℤ → ℤ → Option ℤ
 linked l s t = cond (l == 1) (Some s) (cond (same_stride s (pos l *ℤ t)) (Some t) None)
 
@@ -64,13 +64,13 @@ closing ls zs ms (suc n) a b p q s =
 abbrev pub group : List ℕ → List ℤ → List ℕ → Option (ℕ × ℕ × ℤ)
 group ls zs ms = closing ls zs ms (length ls + length ms) 1 1 (slice_index ls 0) (slice_index ms 0) (slice_index_or zs 0 (pos 0))
 
--- the stride before these axes, of which the last has stride e: next length × next stride
+-- the stride that an axis in step has before these, whose last has stride e: one step is as far as a whole run of the first of them
 abbrev pub whole : ℤ → List ℕ → List ℤ → ℤ
 whole e [] zs = e
 whole e (l ∷ ls) [] = e
 whole e (l ∷ ls) (z ∷ zs) = pos l *ℤ z
 
--- the strides of a new group: the last is e, and each earlier one is next length × next stride
+-- the strides of a new group, from the last, which is e, backwards: one step along an axis is as far as a whole run of the axis behind it
 abbrev pub chain : ℤ → List ℕ → List ℤ
 chain e [] = []
 chain e (m ∷ ms) = whole e ms (chain e ms) ∷ chain e ms
@@ -151,7 +151,7 @@ reshaped o ms s = record {
 abbrev pub reshaping : Order → List ℕ → Seen → Result Seen Fault
 reshaping o ms s = unless (reshape_fault o ms s) (reshaped o ms s)
 
--- the old tuple with as many before it
+-- the tuple of the old lengths that has the same number in the order
 abbrev pub reshaped_back : Order → List ℕ → List ℕ → List ℕ → List ℕ
 reshaped_back o ms ds t = tuple_at o ds (count_before o t ms)
 

@@ -35,11 +35,11 @@ sliced_lens (Slice s e p ∷ es) (d ∷ ds) = entries (resolved d s) (upper d s 
 sliced_lens (Index i ∷ es) [] = []
 sliced_lens (Index i ∷ es) (d ∷ ds) = sliced_lens es ds
 
--- a range from a to b on an axis of stride z leaves stride × step, or 0 where at most one entry is left
+-- the stride after a range from a to b on an axis of stride z: 0 for one entry or none, else multiplied by the step
 abbrev pub cut_stride : ℕ → ℕ → ℤ → ℤ → ℤ
 cut_stride a b p z = cond (nat_le (entries a b p) 1) (pos 0) (z *ℤ p)
 
--- it moves the start by first index × stride, if it has any entry
+-- how far such a range moves the start: as many strides as its first index says, or not at all where it is empty
 abbrev pub cut_move : ℕ → ℕ → ℤ → ℤ → ℤ
 cut_move a b p z = cond (b - a == 0) (pos 0) (pos (first a b p) *ℤ z)
 
@@ -54,7 +54,7 @@ sliced_strides (Index i ∷ es) [] zs = []
 sliced_strides (Index i ∷ es) (d ∷ ds) [] = []
 sliced_strides (Index i ∷ es) (d ∷ ds) (z ∷ zs) = sliced_strides es ds zs
 
--- how far the start moves in all; an index moves it by index × stride
+-- how far the start moves in all; an index moves it that many strides
 abbrev pub sliced_move : List Elem → List ℕ → List ℤ → ℤ
 sliced_move [] ds zs = pos 0
 sliced_move (NewAxis ∷ es) ds zs = sliced_move es ds zs

@@ -16,7 +16,7 @@ offset [] zs = pos 0
 offset (i ∷ ix) [] = pos 0
 offset (i ∷ ix) (z ∷ zs) = pos i *ℤ z +ℤ offset ix zs
 
--- the cell of a tuple: the start plus that sum
+-- where a tuple lies, which is that sum on from the start
 abbrev pub cell_of : ℤ → List ℤ → List ℕ → ℤ
 cell_of start zs ix = start +ℤ offset ix zs
 
@@ -28,7 +28,7 @@ abbrev pub inside : ℕ → ℤ → Bool
 inside n (pos k) = nat_lt k n
 inside n (negsuc k) = false
 
--- every tuple's cell is one of the lent cells
+-- each tuple has its cell among those that are lent
 abbrev pub Bounds : ℕ → ℤ → List ℕ → List ℤ → Type 0
 Bounds cells start ls zs = (ix : List ℕ) → Within ix ls → T (inside cells (cell_of start zs ix))
 
@@ -40,7 +40,7 @@ pub record Twins (ls : List ℕ) (zs : List ℤ) : Type 0 where
   pub other_within : Within other ls
   pub meet : offset one zs ≡ offset other zs
 
--- no two tuples share a cell
+-- different tuples have different cells
 abbrev pub Distinct : List ℕ → List ℤ → Type 0
 Distinct ls zs = (t : Twins ls zs) → t.one ≡ t.other
 
@@ -59,14 +59,14 @@ abbrev pub minus : ℤ → ℕ
 minus (pos k) = 0
 minus (negsuc k) = suc k
 
--- the positive and the negative strides' part of the reach
+-- how much of the reach comes from positive strides, and how much from negative ones
 abbrev pub up : List ℕ → List ℤ → ℕ
 up ls zs = reach plus ls zs
 
 abbrev pub down : List ℕ → List ℤ → ℕ
 down ls zs = reach minus ls zs
 
--- what always holds of a grid: its cells are lent, no two tuples share one, and the limits are kept
+-- what always holds of a grid: its cells are lent, different tuples have different ones, and the limits are kept
 pub record Sound (s : Seen) : Type 0 where
   pub bounds : Bounds s.cells s.start s.lens s.strides
   pub distinct : Distinct s.lens s.strides

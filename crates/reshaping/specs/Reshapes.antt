@@ -13,7 +13,7 @@ abbrev pub order_of : Order → rules.Order
 order_of RowMajor = rules.RowMajor
 order_of ColumnMajor = rules.ColumnMajor
 
--- whether lengths and strides are such as every grid has: of one rank, and the product of the nonzero lengths and the reach within the limit
+-- whether lengths and strides are such as every grid has: of one rank, with neither the reach nor what the nonzero lengths multiply to past the limit
 abbrev pub gridlike : List ℕ → List ℤ → Bool
 gridlike ls zs = length ls == length zs && (nat_le (nonzeros ls) limit && nat_le (span ls zs) limit)
 

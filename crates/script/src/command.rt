@@ -92,7 +92,7 @@ pub struct Filling {
     pub value: Marked<Value>,
 }
 
-/// A range on one axis of so many, with all others whole.
+/// So many axes, all whole but one, which has a range.
 #[derive(Clone, Copy, Debug, PartialEq, Eq)]
 pub struct Ruling {
     pub rank: usize,

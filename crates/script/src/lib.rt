@@ -1,4 +1,4 @@
-// A line of text becomes a command.
+// From the text of a line to the command that it asks for.
 #![tactic(auto)]
 
 mod command;

@@ -12,7 +12,7 @@ use Rattle.selection.specs.Errors.{in_selection, at_place}
 abbrev pub whole : Elem
 whole = Slice (pos 0) None (pos 1)
 
--- a range on one axis, with all others whole
+-- all axes whole but one, which has a range
 abbrev pub one_range : ℕ → ℕ → ℤ → Option ℤ → ℤ → List Elem
 one_range rank axis s e p = slice_set (replicate rank whole) axis (Slice s e p)
 

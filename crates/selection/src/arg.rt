@@ -8,7 +8,7 @@ ghost use Rattle.selection.specs.Walks.{elems_left};
 use crate::elems::Elems;
 use crate::slice::SliceInfoElem;
 
-/// A selection is a list of elements; code above it is right by that list alone.
+/// A selection has elements in an order, and other code may go by nothing else of it.
 pub trait SliceArg {
     /// The elements, in order.
     ghost elems: { Self → List Elem };
@@ -26,7 +26,7 @@ pub trait SliceArg {
     fn len(&self) -> usize
         ensures { result ≡ length (elems self.now) };
 
-    /// The element at a place, or none past the end.
+    /// The element at a place of the list, if it has such a place.
     fn elem(&self, place: usize) -> Option<SliceInfoElem>
         ensures { meant result ≡ slice_get (elems self.now) place };
 

@@ -4,7 +4,7 @@ use crate::slice::Slice;
 
 mod ruled;
 
-/// One range on one axis of a given rank, with all other axes whole.
+/// A selection of a given rank whose axes are whole but for one, which has a range.
 #[derive(Clone, Copy)]
 pub struct AxisRule {
     rank: usize,

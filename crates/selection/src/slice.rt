@@ -18,7 +18,7 @@ impl Slice {
     };
 }
 
-/// One element of a selection: a range, an index, or a new axis.
+/// One element of a selection: it takes a range of an axis or one index of it, or adds an axis.
 #[derive(Clone, Copy, PartialEq, Eq, Debug)]
 pub enum SliceInfoElem {
     Slice(Slice),

@@ -52,7 +52,7 @@ pub fn check_counts<S: SliceArg, D: Dimension>(sel: &S, lens: &D) -> Result<(), 
     Ok(())
 }
 
-/// Why slicing a grid of these lengths is refused, if it is: the two counts, then the first faulty element.
+/// Why slicing a grid of these lengths is refused, if it is; the two counts are tested before any element.
 pub fn slice_fault<S: SliceArg, D: Dimension>(sel: &S, lens: &D) -> Option<SliceFault>
     ensures { found result ≡ slice_fault (S.SliceArg.elems sel.now) (D.Dimension.words lens.now) }
 {

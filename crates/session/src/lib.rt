@@ -1,4 +1,4 @@
-// A command becomes an answer, an answer a line of text.
+// Performs commands, and writes each answer as text.
 #![tactic(auto)]
 
 mod answer;

@@ -36,7 +36,7 @@ impl<'a> Axes<'a> {
         far
     }
 
-    /// Whether an axis is longer than 1 and its stride at most the reach of the other axes of no greater magnitude.
+    /// Whether an axis is longer than 1 and the others with strides of its magnitude or less reach at least as far as its stride.
     fn is_crowded(&self, axis: usize) -> bool
         ensures { result ≡ crowded self.now.lens.now (signed self.now.strides.now) axis }
     {

@@ -38,7 +38,7 @@ fn cut_start(start: usize, stride: usize, span: Span) -> usize
     stride_offset(start, span.first_index(), stride)
 }
 
-/// The stride after a range that leaves so many entries: stride × step, or 0 where at most one is left.
+/// The stride after a range that leaves so many entries: 0 for one entry or none, else multiplied by the step.
 fn cut_stride(stride: usize, count: usize, step: isize) -> usize
     requires stride { 1 < count → unsigned_abs (to_z w64 stride) ≤ 1048576 }
     requires step { unsigned_abs step ≤ 1048576 }

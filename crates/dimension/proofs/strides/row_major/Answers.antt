@@ -5,7 +5,7 @@ use Rattle.laws.specs.Lengths.{product, some_zero}
 use Rattle.laws.proofs.Strides.{scaled, scaled_row_major, step_fits, step_less, write_less}
 use Rattle.dimension.proofs.strides.row_major.Goals as goal
 
--- the last axis's stride: 1, or 0 if some length is 0
+-- the last axis's stride is 0 where there is a length 0, and else 1
 first_step : (b : Bool) → from_bool (not b) ≡ cond b 0 1
 first_step true = refl
 first_step false = refl
