@@ -21,8 +21,7 @@ fn read_cell<T: Cell>(
     layout: &Layout,
     index: &[usize],
 ) -> Result<Option<Value>, GridFault> {
-    let mut reader = Reader::blank();
-    reader.lend(cells, layout)?;
+    let reader = Reader::new(cells, layout)?;
     Ok(reader.get(index).map(|cell| cell.value()))
 }
 

@@ -41,6 +41,17 @@ fn a_reader_of_another_count_stays_blank(rt: HostRuntime) -> Result<(), Fail> {
 }
 
 #[test]
+fn a_reader_is_made_of_as_many_cells_as_the_layout_has(rt: HostRuntime) -> Result<(), Fail> {
+    let order: Strides<Ix1> = Strides::C;
+    let grid = Layout::open(4, 8, &Dim { index: [2, 2] }, &order)?;
+    let amounts = [10i64, 20, 30, 40, 50];
+    assert!(rt; Reader::new(&amounts, &grid).is_err());
+    let value = Reader::new(&amounts[..4], &grid)?.get(&[1, 0]);
+    assert_eq!(rt; value, Some(30));
+    Ok(())
+}
+
+#[test]
 fn reading_finds_the_value_or_none(rt: HostRuntime) -> Result<(), Fail> {
     let order: Strides<Ix1> = Strides::F;
     let grid = Layout::open(6, 8, &Dim { index: [2, 3] }, &order)?;

@@ -1,4 +1,4 @@
-ghost use Rattle.std.specs.Prelude.{◌≡◌, [], ◌∷◌, length, pos, MatchResult};
+ghost use Rattle.std.specs.Prelude.{◌≡◌, [], ◌∷◌, length, pos, IfOk, MatchResult};
 ghost use Rattle.laws.specs.Opening.{fresh};
 ghost use Rattle.laws.specs.Filling.{lent, reading, Read};
 ghost use Rattle.grid.specs.declared.error.GridCall.TheVariants.{Read as Reading};
@@ -20,6 +20,18 @@ fn read_at<T: Copy>(cells: &[T], layout: &Layout, index: &[usize]) -> Option<T>
 }
 
 impl<'a, T: Copy> Reader<'a, T> {
+    /// A reader of these cells; another count of cells than the layout's is refused.
+    pub fn new(cells: &'a [T], layout: &Layout) -> Result<Reader<'a, T>, GridFault>
+        ensures answer { answered (λ _. tt) result ≡ calling Reading (lent (seen layout.now) (length cells.now)) }
+        ensures made { IfOk result (λ r. (r.cells.now ≡ cells.now) × (r.layout ≡ layout.now)) }
+    {
+        check_lent(layout, cells.len(), GridCall::Read)?;
+        Ok(Reader {
+            cells,
+            layout: *layout,
+        })
+    }
+
     /// A reader of no cells.
     pub fn blank() -> Reader<'a, T>
         ensures cells { result.cells.now ≡ [] }
@@ -36,11 +48,7 @@ impl<'a, T: Copy> Reader<'a, T> {
         ensures answer { answered (λ u. u) result ≡ calling Reading (lent (seen layout.now) (length cells.now)) }
         ensures after { MatchResult result (λ _. (self.new.cells.now ≡ cells.now) × (self.new.layout ≡ layout.now)) (λ _. self.new ≡ self.old) }
     {
-        check_lent(layout, cells.len(), GridCall::Read)?;
-        *self = Reader {
-            cells,
-            layout: *layout,
-        };
+        *self = Reader::new(cells, layout)?;
         Ok(())
     }
 
