@@ -62,13 +62,7 @@ impl fmt::Display for Value {
     fn fmt<W: fmt::Write>(&self, f: &mut fmt::Formatter<W>) -> fmt::Result {
         match *self {
             Value::Cents(cents) => write!(f, "{cents}"),
-            Value::Line(
-                PayLine {
-                    person,
-                    code,
-                    cents,
-                },
-            ) => write!(f, "{person}/{code}/{cents}"),
+            Value::Line(line) => write!(f, "{line}"),
         }
     }
 }

@@ -3,7 +3,7 @@ ghost use Rattle.laws.specs.Elements.{in_count, out_count};
 ghost use Rattle.selection.specs.Slices.{elems_of};
 
 use crate::list::write_values;
-use selection::{Lent, Slice, SliceArg, SliceInfoElem};
+use selection::{Lent, SliceArg, SliceInfoElem};
 use std::fmt;
 
 /// A selection of a grid, as it is written.
@@ -58,35 +58,5 @@ pub fn write_selection<W: fmt::Write, S: SliceArg>(
     f: &mut fmt::Formatter<W>,
     sel: &S,
 ) -> fmt::Result {
-    write_values(f, sel.iter().map(Element))
-}
-
-/// One element, as it is written.
-#[derive(Drop)]
-struct Element(SliceInfoElem);
-
-impl fmt::Display for Element {
-    fn fmt<W: fmt::Write>(&self, f: &mut fmt::Formatter<W>) -> fmt::Result {
-        match self.0 {
-            SliceInfoElem::Slice(range) => write_range(f, range),
-            SliceInfoElem::Index(index) => write!(f, "{index}"),
-            SliceInfoElem::NewAxis => f.write_str("NewAxis"),
-        }
-    }
-}
-
-/// Writes a range: its start unless that is 0, its end if it has one, its step unless that is 1.
-fn write_range<W: fmt::Write>(f: &mut fmt::Formatter<W>, range: Slice) -> fmt::Result {
-    let Slice { start, end, step } = range;
-    if start != 0 {
-        write!(f, "{start}")?;
-    }
-    f.write_str("..")?;
-    if let Some(end) = end {
-        write!(f, "{end}")?;
-    }
-    if step != 1 {
-        write!(f, ";{step}")?;
-    }
-    Ok(())
+    write_values(f, sel.iter())
 }

@@ -2,7 +2,7 @@ use cells::PayLine;
 use script::{Value, What};
 
 /// A type of cells that can be lent.
-pub(crate) trait Cell: Copy + Default + PartialEq {
+pub(crate) trait Cell: Copy + Default + PartialEq + Into<Value> {
     /// What a report calls such cells.
     const KIND: &'static str;
 
@@ -11,9 +11,6 @@ pub(crate) trait Cell: Copy + Default + PartialEq {
 
     /// The cell that a value stands for, if the value is of this type.
     fn of(value: Value) -> Option<Self>;
-
-    /// What the cell holds, as a value.
-    fn value(self) -> Value;
 
     /// The cents that the cell comes to.
     fn cents(self) -> i64;
@@ -31,10 +28,6 @@ impl Cell for i64 {
         }
     }
 
-    fn value(self) -> Value {
-        Value::Cents(self)
-    }
-
     fn cents(self) -> i64 {
         self
     }
@@ -50,10 +43,6 @@ impl Cell for PayLine {
             Value::Line(line) => Some(line),
             Value::Cents(_) => None,
         }
-    }
-
-    fn value(self) -> Value {
-        Value::Line(self)
     }
 
     fn cents(self) -> i64 {

@@ -22,7 +22,7 @@ fn read_cell<T: Cell>(
     index: &[usize],
 ) -> Result<Option<Value>, GridFault> {
     let reader = Reader::new(cells, layout)?;
-    Ok(reader.get(index).map(|cell| cell.value()))
+    Ok(reader.get(index).map(|cell| cell.into()))
 }
 
 /// Fills the cells of the grid, or of a selection of it where there is one, of cells of any type.

@@ -20,12 +20,8 @@ impl Layout {
             reshape_dim(&self.lens, &old, shape, order),
             GridCall::Reshape,
         )?;
-        *self = Layout {
-            cells: self.cells,
-            start: self.start,
-            lens: IxDyn::copy_of(shape),
-            strides,
-        };
+        self.lens = IxDyn::copy_of(shape);
+        self.strides = strides;
         Ok(())
     }
 }
