@@ -14,12 +14,6 @@ use Rattle.grid.specs.declared.error.GridCall.TheVariants.{Fill}
 use Rattle.cells.proofs.Walking.{lent_whole}
 use Rattle.cells.proofs.filling.fill.Goals as goal
 
-pub loop-next-init : goal.loop-next-init
-loop-next-init g c =
-    let r = c.first_index-next.result in
-    let first = subst (λ (ls : List ℕ). MatchOption r (product ls ≡ 0) (λ ix. Within (listed ix) ls × (place (listed ix) ls ≡ 0))) c.lens-lens.ensures c.first_index-next.ensures in
-    going_none (seen c.args.layout.now) c.args.value listed c.args.cells.now r first
-
 pub loop-next-smaller : goal.loop-next-smaller
 loop-next-smaller g c =
     let s = seen c.args.layout.now in

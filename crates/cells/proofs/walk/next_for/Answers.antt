@@ -5,11 +5,6 @@ use Rattle.laws.proofs.Tuples.{within_at, within-set}
 use Rattle.laws.proofs.Walks.{carry, stop, carry_none, carry_all}
 use Rattle.cells.proofs.walk.next_for.Goals as goal
 
-pub loop-axis-init : goal.loop-axis-init
-loop-axis-init g c =
-    let ls = g.D.Dimension.words c.args.dim.now in
-    (c.requires, carry_none (g.D.Dimension.words c.args.index) ls c.ndim-axis.result (omega arith))
-
 pub overflow_add-next : goal.overflow_add-next
 overflow_add-next g c =
     let ls = g.D.Dimension.words c.args.dim.now in

@@ -29,9 +29,3 @@ loop-length-preserved c =
       ap (λ n. n * nonzeros (drop (i + 1) ls)) is ∙ nonzeros_more ls i c.loop-length.whole (nonzeros ls) c.loop-length-test.true c.loop-length.invariant.0,
       omega (arith, told.0, told.1),
     )
-
-pub returns : goal.returns
-returns c =
-    let ls = c.args.lens.now in
-    let whole = nonzeros-all ls c.loop-length.length-index c.loop-length.whole (nonzeros ls) c.loop-length-test.false c.loop-length.invariant.0 in
-    worded_fits c.loop-length.whole c.loop-length.invariant.1 ∙ ap worded whole

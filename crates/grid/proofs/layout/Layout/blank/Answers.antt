@@ -12,6 +12,3 @@ invariant_of-result c =
     let row = c.copy_of-row.result in
     kept 0 0 (listed row) (signed (listed row))
     (subst (λ (xs : List ℕ). Sound (fresh 0 xs (signed xs))) (sym c.copy_of-row.ensures) (ordered_sound_row 0 (0 ∷ []) (lit≤ tt) (lit≤ tt) (lit≤ tt) (lit≤ tt)))
-
-pub returns : goal.returns
-returns c = ap (λ (xs : List ℕ). fresh 0 xs (signed xs)) c.copy_of-row.ensures

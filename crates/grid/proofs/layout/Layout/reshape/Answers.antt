@@ -17,10 +17,3 @@ pub invariant_of-self : goal.invariant_of-self
 invariant_of-self g c =
     reshape_kept c.args.self.now (order_of c.args.order) (g.D.Dimension.words c.args.shape.now) c.reshape_dim.result c.reshape_dim.ensures.answer
     c.in_ok-strides.strides c.copy_of-self.result c.in_ok-strides.ensures c.copy_of-self.ensures
-
-pub returns : goal.returns
-returns g c = record {
-  answer = reshape_answer c.args.self.now (order_of c.args.order) (g.D.Dimension.words c.args.shape.now) c.reshape_dim.result c.reshape_dim.ensures.answer
-      c.in_ok-strides.strides c.copy_of-self.result c.in_ok-strides.ensures c.copy_of-self.ensures;
-  same = tt;
-}

@@ -19,7 +19,3 @@ invariant_of-result g c =
     kept cells 0 (listed c.copy_of.result) (signed (listed c.copy_of-2.result))
     (subst (λ (xs : List ℕ). Sound (fresh cells xs (signed (listed c.copy_of-2.result)))) (sym c.copy_of.ensures)
     (subst (λ (ys : List ℤ). Sound (fresh cells ls ys)) (sym (ap signed c.copy_of-2.ensures)) (strided_opened cells c.args.size ls zs (fresh cells ls zs) few opened)))
-
-pub returns : goal.returns
-returns g c =
-    ap (λ (s : Seen). Ok s) (ap₂ (fresh c.args.cells) c.copy_of.ensures (ap signed c.copy_of-2.ensures)) ∙ c.in_ok-can_index_slice.ensures

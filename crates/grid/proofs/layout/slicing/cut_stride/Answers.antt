@@ -4,13 +4,6 @@ use Rattle.std.proofs.lemmas.Bool.{lt-leb}
 use Rattle.grid.proofs.Products.{product_fits, product-read}
 use Rattle.grid.proofs.layout.slicing.cut_stride.Goals as goal
 
-pub overflow_mul-cast_signed : goal.overflow_mul-cast_signed
-overflow_mul-cast_signed c =
-    let z = to_z w64 c.args.stride in
-    let small : nat_abs z ≤ 1048576 = c.requires.stride c.if-count-le1.false in
-    subst (λ (x : ℤ). SFits w64 x) (sym (product-read c.cast_signed.result c.args.step z c.args.step (record { sfits = c.cast_signed.type_inv }) c.ranges.step c.cast_signed.ensures refl))
-    (product_fits z c.args.step small c.requires.step)
-
 pub returns : goal.returns
 returns c =
     let z = to_z w64 c.args.stride in

@@ -12,15 +12,3 @@ returns-then-is_crowded c =
     let none : some_zero ls ≡ false = search rules in
     let found : some_below (length ls) (crowded ls zs) ≡ true = below_at (length ls) c.loop-axis.axis (crowded ls zs) (omega arith) (sym c.if-is_crowded.ensures) in
     rw (none, found)
-
-pub loop-axis-preserved : goal.loop-axis-preserved
-loop-axis-preserved c = below_next c.loop-axis.axis _ c.loop-axis.invariant (sym c.if-is_crowded.ensures)
-
-pub returns : goal.returns
-returns c =
-    let ls = c.args.self.now.lens.now in
-    let zs = signed c.args.self.now.strides.now in
-    let none : some_zero ls ≡ false = search rules in
-    let end : c.loop-axis.axis ≡ length ls = omega arith in
-    let apart : some_below (length ls) (crowded ls zs) ≡ false = subst (λ (n : ℕ). some_below n (crowded ls zs) ≡ false) end c.loop-axis.invariant in
-    rw (none, apart)

@@ -23,24 +23,12 @@ loop-place-init c =
     ap (λ n. parts_from n k m it.iter.a.rest.now (signed it.iter.b.rest.now)) none ∙ ap₂ (λ (x y : List ℕ). parts_from 0 k m x (signed y)) lens strides in
     (((tt, tt), tt, inl fits), tt, long, omega (arith, c.args.self.now.fits, reach), omega (arith, rest ∙ ap (λ n. parts_from 0 n m ls (signed ws)) zero ∙ parts_are 0 k m ls (signed ws)))
 
--- one axis of what is left, and what the other axes add
-axis : (n w size : ℕ) (ls ws ns us : List ℕ) → (ls ≡ n ∷ ns) × (ws ≡ w ∷ us) → size ≡ nat_abs (to_z w64 w) → (n - 1) * size ≤ span ls (signed ws)
-axis n w size ls ws ns us e s =
-    let whole : span ls (signed ws) ≡ (n - 1) * nat_abs (to_z w64 w) + span ns (signed us) = ap₂ (λ (x y : List ℕ). span x (signed y)) e.0 e.1 in
-    let same : (n - 1) * size ≡ (n - 1) * nat_abs (to_z w64 w) = ap (λ d. (n - 1) * d) s in
-    omega arith
-
 share_within : (i j k m n w size r far : ℕ) (ls ws ns us : List ℕ) (whole : ℕ) → (ls ≡ n ∷ ns) × (ws ≡ w ∷ us) → i ≡ j → size ≡ nat_abs (to_z w64 w)
     → r ≡ cond (eqb i k) 0 (cond (leb size m) ((n - 1) * size) 0) → far + parts_from j k m ls (signed ws) ≡ whole → far + r ≤ whole
 share_within i j k m n w size r far ls ws ns us whole e same s is inv =
     let parts : parts_from j k m ls (signed ws) ≡ part j k m n (to_z w64 w) + parts_from (suc j) k m ns (signed us) = ap₂ (λ (x y : List ℕ). parts_from j k m x (signed y)) e.0 e.1 in
     let one : r ≡ part j k m n (to_z w64 w) = is ∙ ap₂ (λ (x y : ℕ). cond (eqb x k) 0 (cond (leb y m) ((n - 1) * y) 0)) same s in
     omega arith
-
-pub axis_share-far-requires : goal.axis_share-far-requires
-axis_share-far-requires c =
-    let within = axis c.in-Some.length.now c.in-Some.stride.now c.magnitude.result _ _ _ _ c.in-Some.ensures.steps.0 c.magnitude.ensures in
-    omega (arith, c.loop-place.invariant.3)
 
 pub overflow_add-far : goal.overflow_add-far
 overflow_add-far c =
