@@ -1,16 +1,16 @@
 -- What the checks of the rows passed, and that what opening in an order accepts is sound.
-use Rattle.std.proofs.Common.{◌≡◌, ℕ, ◌≤◌, false, not, eqb, ltb, List, map, length, ℤ, pos, Ok}
+use Rattle.std.proofs.Common.{◌≡◌, ℕ, ◌≤◌, false, ltb, List, map, length, pos, Ok}
 use Rattle.std.proofs.lemmas.Bool.{ltb-false}
 use Rattle.laws.specs.Lengths.{product, nonzeros}
 use Rattle.laws.specs.Strides.{signed}
 use Rattle.laws.specs.Space.{Sound}
 use Rattle.laws.specs.Faults.{in_rows}
-use Rattle.laws.specs.Opening.{limit, most, fresh, overflows, some_negative}
+use Rattle.laws.specs.Opening.{limit, most, fresh}
 use Rattle.laws.proofs.Faults.{passed_on}
 use Rattle.laws.proofs.Opened.{ordered_sound_row, ordered_sound_column, signed_row, signed_column}
 use Rattle.dimension.specs.declared.order.Order.{Order}
 use Rattle.dimension.specs.declared.order.Order.TheVariants.{RowMajor, ColumnMajor}
-use Rattle.grid.specs.Layouts.{in_order, shaped, reaching}
+use Rattle.grid.specs.Layouts.{in_order, shaped}
 
 pub ordered_sound : (order : Order) (cells : ℕ) (ls : List ℕ) → length ls ≤ 8 → ltb limit cells ≡ false → ltb limit (nonzeros ls) ≡ false → product ls ≤ cells
     → Sound (fresh cells ls (map pos (in_order order ls)))

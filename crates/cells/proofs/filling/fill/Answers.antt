@@ -5,7 +5,7 @@ use Rattle.laws.specs.Tuples.{Within, place}
 use Rattle.laws.specs.Space.{cell}
 use Rattle.laws.specs.Filling.{Reaches}
 use Rattle.laws.proofs.Walks.{left, left_less}
-use Rattle.laws.proofs.Filling.{Going, going_none, going_more, upto_more, upto_all, filled_is}
+use Rattle.laws.proofs.Filling.{Going, going_more, upto_more, upto_all, filled_is}
 use Rattle.dimension.specs.declared.dynindeximpl.IxDyn.{IxDyn}
 use Rattle.dimension.specs.Rows.{listed}
 use Rattle.grid.specs.Layouts.{seen}

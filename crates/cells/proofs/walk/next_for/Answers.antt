@@ -2,7 +2,7 @@ use Rattle.std.proofs.Common.{◌≡◌, ℕ, ◌+◌, ◌-◌, ◌<◌, List, l
 use Rattle.laws.specs.Lengths.{product}
 use Rattle.laws.specs.Tuples.{Within, place}
 use Rattle.laws.proofs.Tuples.{within_at, within-set}
-use Rattle.laws.proofs.Walks.{carry, stop, carry_none, carry_all}
+use Rattle.laws.proofs.Walks.{carry, stop, carry_all}
 use Rattle.cells.proofs.walk.next_for.Goals as goal
 
 pub overflow_add-next : goal.overflow_add-next

@@ -1,9 +1,8 @@
 use Rattle.std.proofs.Common.{◌≡◌, ℕ, ◌+◌, ◌*◌, max, get_or, drop, ap, ◌∙◌, arith}
 use Rattle.std.proofs.lemmas.Bool.Decides.{nat_tests}
 use Rattle.laws.specs.Lengths.{nonzero, nonzeros}
-use Rattle.laws.proofs.Lengths.{nonzeros-pos, nonzeros_more, nonzeros-all, part_below}
-use Rattle.dimension.specs.Reach.{worded}
-use Rattle.dimension.proofs.Limits.{worded_over, worded_fits, past_word}
+use Rattle.laws.proofs.Lengths.{nonzeros-pos, nonzeros_more, part_below}
+use Rattle.dimension.proofs.Limits.{worded_over, past_word}
 use Rattle.dimension.proofs.size.nonzero_product.Goals as goal
 
 nonzero_max : (n : ℕ) → max n 1 ≡ nonzero n

@@ -1,6 +1,6 @@
-use Rattle.std.proofs.Common.{one-mul, refl, arith}
-use Rattle.laws.specs.Lengths.{product, nonzeros}
-use Rattle.laws.proofs.Lengths.{product_more, product-all, part_more, part_fits}
+use Rattle.std.proofs.Common.{refl, arith}
+use Rattle.laws.specs.Lengths.{nonzeros}
+use Rattle.laws.proofs.Lengths.{part_fits}
 use Rattle.dimension.proofs.size.size.Goals as goal
 
 pub overflow_mul-size : goal.overflow_mul-size

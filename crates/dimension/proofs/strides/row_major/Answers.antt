@@ -1,8 +1,6 @@
-use Rattle.std.proofs.Common.{◌≡◌, ℕ, ◌-◌, ◌*◌, ◌≤◌, Bool, true, false, cond, not, [], length, drop, set, sym, refl, ap, ◌∙◌, subst, mul-one, arith}
-use Rattle.std.specs.Int.{from_bool}
-use Rattle.std.proofs.lemmas.List.{at_drop_all, drop_all, length-set}
+use Rattle.std.proofs.Common.{◌≡◌, ℕ, ◌-◌, ◌*◌, cond, drop, ap, ◌∙◌, subst, arith}
 use Rattle.laws.specs.Lengths.{product, some_zero}
-use Rattle.laws.proofs.Strides.{scaled, scaled_row_major, step_fits, step_less, write_less}
+use Rattle.laws.proofs.Strides.{scaled, scaled_row_major, step_fits, step_less}
 use Rattle.dimension.proofs.strides.row_major.Goals as goal
 
 pub overflow_mul-step : goal.overflow_mul-step

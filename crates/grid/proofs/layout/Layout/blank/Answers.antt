@@ -1,4 +1,4 @@
-use Rattle.std.proofs.Common.{ℕ, List, [], ◌∷◌, sym, ap, subst, lit≤}
+use Rattle.std.proofs.Common.{ℕ, List, [], ◌∷◌, sym, subst, lit≤}
 use Rattle.laws.specs.Strides.{signed}
 use Rattle.laws.specs.Space.{Sound}
 use Rattle.laws.specs.Opening.{fresh}

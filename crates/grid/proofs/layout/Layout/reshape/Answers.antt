@@ -1,7 +1,7 @@
 use Rattle.std.proofs.Common.{refl}
 use Rattle.std.proofs.lemmas.Result.{err_from_is_err_and}
 use Rattle.reshaping.specs.Reshapes.{order_of}
-use Rattle.grid.proofs.Reshaping.{refused, reshape_answer, reshape_kept}
+use Rattle.grid.proofs.Reshaping.{refused, reshape_kept}
 use Rattle.grid.proofs.layout.Layout.reshape.Goals as goal
 
 pub returns-in_err-strides : goal.returns-in_err-strides

@@ -1,6 +1,6 @@
-use Rattle.std.proofs.Common.{ℕ, ◌≤◌, List, length, ℤ, Ok, sym, ap, ◌∙◌, subst, ap₂}
+use Rattle.std.proofs.Common.{ℕ, ◌≤◌, List, length, ℤ, sym, ap, subst}
 use Rattle.laws.specs.Strides.{signed}
-use Rattle.laws.specs.Space.{Seen, Sound}
+use Rattle.laws.specs.Space.{Sound}
 use Rattle.laws.specs.Opening.{fresh, strided}
 use Rattle.laws.proofs.Opened.{strided_opened}
 use Rattle.dimension.specs.Rows.{listed}

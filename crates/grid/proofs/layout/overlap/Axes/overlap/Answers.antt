@@ -1,8 +1,8 @@
-use Rattle.std.proofs.Common.{rules, ◌≡◌, ℕ, true, false, length, sym, subst, arith}
+use Rattle.std.proofs.Common.{rules, ◌≡◌, true, false, length, sym, arith}
 use Rattle.laws.specs.Lengths.{some_below, some_zero}
 use Rattle.laws.specs.Strides.{signed}
 use Rattle.laws.specs.Opening.{crowded}
-use Rattle.laws.proofs.Zeros.{below_at, below_next}
+use Rattle.laws.proofs.Zeros.{below_at}
 use Rattle.grid.proofs.layout.overlap.Axes.overlap.Goals as goal
 
 pub returns-then-is_crowded : goal.returns-then-is_crowded
