@@ -1,5 +1,5 @@
 -- A test of each stride of a row, made on its words, and the reach of two rows.
-use Rattle.std.proofs.Common.{◌≡◌, ℕ, ◌+◌, ◌-◌, ◌*◌, ◌^◌, length, Bool, true, false, not, ◌||◌, ◌&&◌, ltb, leb, List, [], ◌∷◌, ℤ, nat_abs, sym, refl, ap, ◌∙◌, inl, inr, arith, w64, to_z}
+use Rattle.std.proofs.Common.{◌≡◌, ℕ, ◌-◌, ◌^◌, length, Bool, true, false, not, ◌||◌, ◌&&◌, ltb, leb, List, [], ◌∷◌, ℤ, nat_abs, sym, refl, ap, ◌∙◌, inl, inr, arith, w64, to_z}
 use Rattle.std.specs.List.{list_any, list_all}
 use Rattle.std.proofs.lemmas.Bool.{cases_lt, lt-ltb, le-ltb}
 use Rattle.std.proofs.lemmas.Bool.Decides.{nat_tests}
@@ -38,11 +38,6 @@ pub none_above : (m : ℕ) (ws : List ℕ) → not (some_above m (signed ws)) �
 none_above m ws = no_word (λ z. ltb m (nat_abs z)) (λ w. leb (nat_abs (to_z w64 w)) m) (λ w. not_ltb m (nat_abs (to_z w64 w))) ws
 
 -- ---- the reach, axis by axis
-
-pub axis_more : (ls ws ns us : List ℕ) (n w far whole : ℕ) → (ls ≡ n ∷ ns) × (ws ≡ w ∷ us) → far + span ls (signed ws) ≡ whole
-    → far + ((n - 1) * nat_abs (to_z w64 w) + span ns (signed us)) ≡ whole
-axis_more ls ws ns us n w far whole e h =
-    sym (ap (λ r. far + span r (signed ws)) e.0 ∙ ap (λ r. far + span (n ∷ ns) (signed r)) e.1) ∙ h
 
 pub no_axes : (ls ws : List ℕ) → length ls ≡ 0 → span ls (signed ws) ≡ 0
 no_axes [] ws e = refl

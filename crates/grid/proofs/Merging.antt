@@ -1,7 +1,7 @@
 -- Merging two axes of a layout, by what code reads of it.
 use Rattle.std.proofs.Common.{◌≡◌, ℕ, zero, suc, ◌*◌, ◌^◌, ◌<◌, ◌≤◌, min, Bool, true, false, cond, eqb, leb, List, [], ◌∷◌, get_or, set, ℤ, pos, ◌*ℤ◌, nat_abs, None, Ok, Option, sym, refl, ap, ◌∙◌, subst, ap₂, mul-le-mul, arith, w64, to_z}
 use Rattle.std.proofs.lemmas.List.{map-set}
-use Rattle.std.proofs.lemmas.Bool.{le-leb, lt-leb, ne_eqb}
+use Rattle.std.proofs.lemmas.Bool.{lt-leb, ne_eqb}
 use Rattle.std.proofs.lemmas.Bool.Decides.{nat_tests}
 use Rattle.laws.specs.Strides.{signed}
 use Rattle.laws.specs.Space.{Sound}
@@ -53,22 +53,6 @@ by_strides l take into m n x y m-is n-is x-is y-is long longer apart =
     (ap (λ (z : ℤ). same_stride z (pos n *ℤ to_z w64 y)) (stride_word l take x x-is)
     ∙ ap (λ (z : ℤ). same_stride (stride_at (seen l) take) (pos n *ℤ z)) (stride_word l into y y-is)
     ∙ ap (λ (k : ℕ). same_stride (stride_at (seen l) take) (pos k *ℤ stride_at (seen l) into)) n-is)
-
--- ---- the stride
-
-module _ (l : Layout) (take into : ℕ) (m w : ℕ) (m-is : m ≡ get_or (listed l.lens) take 0) (w-is : w ≡ get_or (listed l.strides) into 0) where
-  pub stride_short : m ≤ 1 → to_z w64 w ≡ merged_stride take into (seen l)
-  stride_short h = let yes : leb (len_at (seen l) take) 1 ≡ true = le-leb _ _ (omega arith) in rw yes (stride_word l into w w-is)
-
-  module _ (long : 1 < m) (n : ℕ) (n-is : n ≡ get_or (listed l.lens) into 0) where
-    off : leb (len_at (seen l) take) 1 ≡ false
-    off = lt-leb _ _ (omega arith)
-
-    pub stride_taken : n ≤ 1 → (x : ℕ) → x ≡ get_or (listed l.strides) take 0 → to_z w64 x ≡ merged_stride take into (seen l)
-    stride_taken h x e = let yes : leb (len_at (seen l) into) 1 ≡ true = le-leb _ _ (omega arith) in rw (off, yes) (stride_word l take x e)
-
-    pub stride_left : 1 < n → to_z w64 w ≡ merged_stride take into (seen l)
-    stride_left h = let not_yes : leb (len_at (seen l) into) 1 ≡ false = lt-leb _ _ (omega arith) in rw (off, not_yes) (stride_word l into w w-is)
 
 -- ---- the answer, and the grid after it
 

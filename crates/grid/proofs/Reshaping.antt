@@ -1,7 +1,7 @@
 -- Reshaping a layout, by the strides that code finds for it.
-use Rattle.std.proofs.Common.{◌≡◌, ℕ, List, ℤ, pos, None, Ok, Err, Option, Result, sym, ap, ◌∙◌, subst, arith}
+use Rattle.std.proofs.Common.{◌≡◌, ℕ, List, ℤ, pos, None, Ok, Err, Result, sym, ap, ◌∙◌, subst, arith}
 use Rattle.laws.specs.Strides.{signed}
-use Rattle.laws.specs.Space.{Seen, Sound}
+use Rattle.laws.specs.Space.{Sound}
 use Rattle.laws.specs.Faults.{Fault, unless}
 use Rattle.laws.specs.Reshaping.{Order, restrided, refusal_of, strides_of, reshape_fault, reshaped, reshaping, reshaped_back}
 use Rattle.laws.proofs.Refining.{sound_refined}
@@ -53,9 +53,6 @@ module _ (l : Layout) (o : Order) (ms : List ℕ) (r : Result IxDyn RowFault) (i
 
     reshape_is : record { cells = l.cells; start = pos l.start; lens = listed lens; strides = signed (listed strides) } ≡ reshaped o ms (seen l)
     reshape_is = λ i. record { cells = l.cells; start = pos l.start; lens = lens-is i; strides = strides_of (new i) }
-
-    pub reshape_answer : Ok (record { cells = l.cells; start = pos l.start; lens = listed lens; strides = signed (listed strides) }) ≡ calling Reshape (reshaping o ms (seen l))
-    reshape_answer = ap (λ (s : Seen). Ok s) reshape_is ∙ sym (ap (λ (f : Option Fault). calling Reshape (unless f (reshaped o ms (seen l)))) passed)
 
     pub reshape_kept : Kept l.cells l.start (listed lens) (signed (listed strides))
     reshape_kept =

@@ -5,7 +5,7 @@ use Rattle.std.proofs.lemmas.Bool.{lt-ltb, cases_Bool, not-false, true≢false, 
 use Rattle.laws.specs.Strides.{signed}
 use Rattle.laws.specs.Faults.{Fault, in_selection, refuse, unless}
 use Rattle.laws.specs.Space.{Seen, Sound, inside}
-use Rattle.laws.specs.Elements.{Elem, Slice, Index, NewAxis, out_count, in_count, resolved, upper, outside, outside_index, bad_step, entries}
+use Rattle.laws.specs.Elements.{Elem, Slice, Index, out_count, in_count, resolved, upper, outside, outside_index, bad_step, entries}
 use Rattle.laws.specs.Slicing.{first_fault, slice_fault, cut_move, cut_stride, sliced}
 use Rattle.laws.proofs.Faults.{passed_on}
 use Rattle.laws.proofs.Lists.{get_or-within}
@@ -13,7 +13,7 @@ use Rattle.laws.proofs.Limits.{stride_small}
 use Rattle.laws.proofs.Resolving.{entries-few}
 use Rattle.laws.proofs.Words.{length-signed, stride_read}
 use Rattle.laws.proofs.Slicing.{slicing_sound}
-use Rattle.laws.proofs.SlicingLoop.{Cutting, cutting_word, cutting_new, cutting_range, cutting-index, axis_left, range_outside, range_step, index-outside}
+use Rattle.laws.proofs.SlicingLoop.{Cutting, cutting_word, cutting_range, cutting-index, axis_left, range_outside, range_step, index-outside}
 use Rattle.dimension.specs.declared.dynindeximpl.IxDyn.{IxDyn}
 use Rattle.dimension.specs.Rows.{listed, pushed}
 use Rattle.selection.specs.Resolving.{ranged, indexed, Bounded}
@@ -103,13 +103,6 @@ module _ (l : Layout) (es : List Elem) (k : ℕ) (c : Cut) (u : Under (seen l) e
       room = room-on;
       paired = paired-on;
     }
-
-  -- a new axis
-  pub under_new : drop k es ≡ NewAxis ∷ drop (k + 1) es → (n : Cut) → n.axis ≡ c.axis → n.start ≡ c.start
-      → listed n.lens ≡ pushed (listed c.lens) 1 → listed n.strides ≡ pushed (listed c.strides) 0 → Under s es (k + 1) n
-  under_new split n p q lens-is strides-is =
-      under_axis NewAxis split refl n 1 0 lens-is strides-is c.axis (pos c.start) (pos 0) p (ap pos q) refl u.within
-      (cutting_new s es k c.axis (pos c.start) (listed c.lens) (signed (listed c.strides)) l.paired u.cutting split)
 
   -- the next axis, as code reads it
   module _ (d w : ℕ) (d-is : d ≡ get_or (listed l.lens) c.axis 0) (w-is : w ≡ get_or (listed l.strides) c.axis 0) where

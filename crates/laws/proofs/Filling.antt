@@ -70,9 +70,6 @@ one_cell s ix jx k m r q e =
     cc
 
 module _ {X : Type 0} (s : Seen) (value : X) where
-  pub upto_none : (old : List X) → Upto s value 0 old old
-  upto_none old = record { long = refl; hit = λ ix k d r h. absurd (omega arith); miss = λ k d never. refl }
-
   pub upto_more : (old new : List X) (ix : List ℕ) (k : ℕ) → Sound s → length old ≡ s.cells → Reaches s ix k
       → Upto s value (place ix s.lens) old new → Upto s value (place ix s.lens + 1) old (set new k value)
   upto_more old new ix k sound l r u =
@@ -103,11 +100,6 @@ module _ {X : Type 0} (s : Seen) (value : X) where
   abbrev pub Going : {D : Type 0} → (D → List ℕ) → List X → List X → Option D → Type 0
   Going words old new None = Upto s value (product s.lens) old new
   Going words old new (Some index) = Within (words index) s.lens × Upto s value (place (words index) s.lens) old new
-
-  pub going_none : {D : Type 0} (words : D → List ℕ) (old : List X) (r : Option D)
-      → MatchOption r (product s.lens ≡ 0) (λ index. Within (words index) s.lens × (place (words index) s.lens ≡ 0)) → Going words old old r
-  going_none words old None e = subst (λ n. Upto s value n old old) (sym e) (upto_none old)
-  going_none words old (Some index) (w, e) = (w, subst (λ n. Upto s value n old old) (sym e) (upto_none old))
 
   pub going_more : {D : Type 0} (words : D → List ℕ) (old new : List X) (r : Option D) (n : ℕ) → Upto s value (n + 1) old new
       → MatchOption r (n + 1 ≡ product s.lens) (λ index. Within (words index) s.lens × (place (words index) s.lens ≡ n + 1)) → Going words old new r

@@ -27,11 +27,6 @@ product_more ws i a t l e =
     let step : product (drop i ws) ≡ get_or ws i 0 * product (drop (i + 1) ws) = at_drop_more product ws i 0 l in
     mul_assoc a (get_or ws i 0) (product (drop (i + 1) ws)) ∙ ap (λ n. a * n) (sym step) ∙ e
 
-pub nonzeros-all : (ws : List ℕ) (i a t : ℕ) → length ws ≤ i → a * nonzeros (drop i ws) ≡ t → a ≡ t
-nonzeros-all ws i a t l e =
-    let end : nonzeros (drop i ws) ≡ 1 = at_drop_all nonzeros ws i l in
-    sym (mul-one a) ∙ ap (λ n. a * n) (sym end) ∙ e
-
 pub product-all : (ws : List ℕ) (i a t : ℕ) → length ws ≤ i → a * product (drop i ws) ≡ t → a ≡ t
 product-all ws i a t l e =
     let end : product (drop i ws) ≡ 1 = at_drop_all product ws i l in

@@ -5,7 +5,7 @@ use Rattle.std.proofs.lemmas.List.{append_assoc, drop_more, length-drop}
 use Rattle.std.proofs.lemmas.Int.{ints}
 use Rattle.laws.specs.Faults.{Fault, in_selection}
 use Rattle.laws.specs.Space.{Seen, Sound, inside, plus, minus, up, down}
-use Rattle.laws.specs.Elements.{Elem, Slice, Index, NewAxis, in_count, resolved, upper, outside, outside_index, bad_step, entries}
+use Rattle.laws.specs.Elements.{Elem, Slice, Index, in_count, resolved, upper, outside, outside_index, bad_step, entries}
 use Rattle.laws.specs.Slicing.{first_fault, sliced_lens, sliced_strides, sliced_move, cut_stride, cut_move}
 use Rattle.laws.proofs.Axes.{move_high, move_low, index-high, index-low}
 use Rattle.laws.proofs.Resolving.{index_below, range_axis}
@@ -40,18 +40,6 @@ module _ (s : Seen) (es : List Elem) (k axis : ℕ) (start : ℤ) (ns : List ℕ
 
   abbrev es' : List Elem
   es' = drop (k + 1) es
-
-  -- a new axis
-  pub cutting_new : drop k es ≡ NewAxis ∷ drop (k + 1) es → Cutting s es (k + 1) axis start (ns ++ 1 ∷ []) (ys ++ pos 0 ∷ [])
-  cutting_new e = record {
-    lens = append_assoc ns (1 ∷ []) (sliced_lens es' ds) ∙ sym (ap (λ t. ns ++ sliced_lens t ds) e) ∙ g.lens;
-    strides = append_assoc ys (pos 0 ∷ []) (sliced_strides es' ds zs) ∙ sym (ap (λ t. ys ++ sliced_strides t ds zs) e) ∙ g.strides;
-    moves = sym (ap (λ t. start +ℤ sliced_move t ds zs) e) ∙ g.moves;
-    counts = sym (ap in_count e) ∙ g.counts;
-    faults = ap (λ m. first_fault m es' ds) (add-one k) ∙ sym (ap (λ t. first_fault k t ds) e) ∙ g.faults;
-    floor = g.floor;
-    ceiling = g.ceiling;
-  }
 
   -- an element that takes an axis: there is one
   pub axis_left : (n : ℕ) → in_count (drop k es) ≡ suc n → axis < length s.lens

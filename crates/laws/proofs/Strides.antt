@@ -51,12 +51,6 @@ step_less a p ws h l =
     let e : p - 1 + 1 ≡ p = omega arith in
     subst (λ (n : ℕ). (a * product (drop n ws)) * get_or ws (p - 1) 0 ≡ a * product (drop (p - 1) ws)) e (step_more a (p - 1) ws (omega arith))
 
-pub write_less : (a p : ℕ) (ws out : List ℕ) → 0 < p → p ≤ length ws → length out ≡ length ws → drop p out ≡ scaled a (drop p ws) → drop (p - 1) (set out (p - 1) (a * product (drop p ws))) ≡ scaled a (drop (p - 1) ws)
-write_less a p ws out h l m d =
-    let e : p - 1 + 1 ≡ p = omega arith in
-    let more = write_more a (p - 1) ws out (omega arith) (omega arith) in
-    subst (λ (n : ℕ). drop n out ≡ scaled a (drop n ws) → drop (p - 1) (set out (p - 1) (a * product (drop n ws))) ≡ scaled a (drop (p - 1) ws)) e more d
-
 -- ---- the other order
 product_push : (xs : List ℕ) (y : ℕ) → product (xs ++ y ∷ []) ≡ y * product xs
 product_push [] y = refl

@@ -1,6 +1,5 @@
 -- The walk from tuple to tuple in row-major order.
 use Rattle.std.proofs.Common.{◌≡◌, ℕ, zero, suc, ◌+◌, ◌-◌, ◌*◌, ◌<◌, ◌≤◌, List, [], ◌∷◌, length, get_or, drop, set, replicate, Some, None, Option, sym, refl, ap, ◌∙◌, subst, add-mul, one-mul, zero-mul, add-one, arith, MatchOption}
-use Rattle.std.proofs.lemmas.List.{at_drop_all}
 use Rattle.laws.specs.Lengths.{product}
 use Rattle.laws.specs.Tuples.{Within, place}
 use Rattle.laws.proofs.Tuples.{place_lt, product_at}
@@ -37,10 +36,6 @@ module _ (ix ls : List ℕ) (j goal : ℕ) (w : Within ix ls) (h : j < length ls
   stop =
       let p = product (drop (suc j) ls) in
       omega (arith, missing, one-mul p, add-mul (get_or ix j 0) 1 p, place_set ix ls j (get_or ix j 0 + 1) w h)
-
--- at the start, and where every axis went back to 0
-pub carry_none : (ix ls : List ℕ) (j : ℕ) → length ls ≤ j → place ix ls + product (drop j ls) ≡ place ix ls + 1
-carry_none ix ls j h = at_drop_all (λ (r : List ℕ). place ix ls + product r) ls j h
 
 pub carry_all : (from ix ls : List ℕ) (j : ℕ) → j ≤ 0 → Within from ls → place ix ls + product (drop j ls) ≡ place from ls + 1 → place from ls + 1 ≡ product ls
 carry_all from ix ls j h w e =

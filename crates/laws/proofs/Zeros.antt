@@ -1,5 +1,5 @@
 -- What the tests on lengths say.
-use Rattle.std.proofs.Common.{◌≡◌, ℕ, ◌+◌, ◌<◌, Bool, true, false, eqb, List, [], ◌∷◌, Decides, refl, inl, inr, mul-zero, zero-mul, add-one, arith}
+use Rattle.std.proofs.Common.{◌≡◌, ℕ, ◌<◌, Bool, true, false, eqb, List, [], ◌∷◌, Decides, refl, inl, inr, mul-zero, zero-mul, arith}
 use Rattle.std.proofs.lemmas.Bool.{both_ways, eqb-true, eqb-false, or_cases, or_parts, cases_Bool}
 use Rattle.std.proofs.lemmas.Bool.Decides.{Decides-below_or}
 use Rattle.laws.specs.Lengths.{product, some_zero, some_below}
@@ -23,9 +23,6 @@ below_none n f e i h =
 
 pub below_at : (n i : ℕ) (f : ℕ → Bool) → i < n → f i ≡ true → some_below n f ≡ true
 below_at n i f h e = (below_decides n f).1 (i, h, e)
-
-pub below_next : (i : ℕ) (f : ℕ → Bool) → some_below i f ≡ false → f i ≡ false → some_below (i + 1) f ≡ false
-below_next i f before here = rw (add-one i, here) before
 
 -- ---- whether some length is 0
 
