@@ -21,6 +21,7 @@ pub fn fill<T: Copy>(layout: &Layout, cells: &mut [T], value: T) -> Result<(), G
     check_lent(layout, cells.len(), GridCall::Fill)?;
     let lens = layout.lens();
     let mut next = first_index(&lens);
+    // A walk and no iterator, since its law goes by the tuple's number.
     while let Some(index) = next {
         let at = layout.stride_offset(index.as_slice());
         cells[at] = value;

@@ -21,6 +21,7 @@ pub(crate) fn next_for<D: Dimension>(dim: &D, index: D) -> Option<D>
     ensures { MatchOption result (place (D.Dimension.words index) (D.Dimension.words dim.now) + 1 ≡ product (D.Dimension.words dim.now)) (λ ix. Within (D.Dimension.words ix) (D.Dimension.words dim.now) × (place (D.Dimension.words ix) (D.Dimension.words dim.now) ≡ place (D.Dimension.words index) (D.Dimension.words dim.now) + 1)) }
 {
     let mut index = index;
+    // The tuple is read and written at the axis, so the loop goes over axes.
     for axis in (0..dim.ndim()).rev() {
         let length = word_at(dim, axis);
         let next = word_at(&index, axis) + 1;

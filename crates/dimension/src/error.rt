@@ -34,6 +34,7 @@ pub enum RowFault {
 
 impl RowFault {
     /// The number that stands for the fault.
+    // A match, so that each number stands beside its fault.
     pub fn number(&self) -> u8
         ensures { result ≡ row_number self.now }
     {

@@ -51,6 +51,7 @@ fn size(lens: &[usize]) -> usize
     requires { nonzeros lens.now ≤ 2 ^ 63 - 1 }
     ensures { result ≡ product lens.now }
 {
+    // `product` would want a proof that each of its runs fits.
     let mut size = 1;
     for length in lens {
         size *= *length;

@@ -16,6 +16,7 @@ fn row_major<D: Dimension>(dim: &D) -> D
 {
     let mut out = *dim;
     let mut step = usize::from(!is_empty(dim));
+    // `set` takes a place, so the loop goes over places.
     for place in (0..dim.ndim()).rev() {
         let _ = out.set(place, step);
         step *= word_at(dim, place);

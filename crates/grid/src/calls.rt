@@ -97,6 +97,7 @@ pub fn replay<S: SliceArg>(grid: &mut Layout, calls: &[Call<S>], said: &mut [Ans
     if calls.len() != said.len() {
         return false;
     }
+    // By place, since an iterator over the answers would hide what was written.
     for (place, call) in calls.iter().enumerate() {
         said[place] = perform(grid, call);
     }

@@ -51,6 +51,7 @@ pub struct GridFault {
 
 impl GridFault {
     /// The number that stands for the fault.
+    // A match, so that each number stands beside its fault.
     pub fn number(&self) -> u8
         ensures { result ≡ (told self.now).fault.number }
     {

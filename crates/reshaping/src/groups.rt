@@ -32,6 +32,7 @@ impl<'a> Turn<'a> {
         let mut stride = self.strides[0];
         let mut old_product = self.from[0];
         let mut new_product = self.to[0];
+        // Each turn grows one of two sides, so there is no one list to go over.
         while old_product != new_product {
             if old_product < new_product {
                 let length = self.from[olds];

@@ -37,6 +37,7 @@ fn same_size<F: Dimension, E: Dimension>(from: &F, to: &E) -> Result<usize, RowF
 }
 
 /// The strides of the new lengths, where the sizes are equal and not 0.
+// Three rows, as the call that users know takes them; the other order turns all three round.
 fn regrouped_in<F: Dimension, S: Dimension, E: Dimension>(
     from: &F,
     strides: &S,

@@ -8,6 +8,7 @@ use crate::turn::Turn;
 use dimension::{Dimension, IxDyn, RowFault};
 
 /// Writes stride 1 for each length.
+// Not a group of steps, which would divide 1 by 1 to say 1.
 fn write_ones(lengths: &[usize], out: &mut IxDyn)
     requires { length (listed out.old) + length lengths.now ≤ 8 }
     ensures { signed (listed out.new) ≡ signed (listed out.old) ++ replicate (length lengths.now) (pos 1) }

@@ -46,7 +46,7 @@ impl From<i64> for Value {
     ghost from_gives = { λ x value. value ≡ Cents x };
 
     fn from(cents: i64) -> Value {
-        Value::Cents(cents)
+        Self::Cents(cents)
     }
 }
 
@@ -54,7 +54,7 @@ impl From<PayLine> for Value {
     ghost from_gives = { λ x value. value ≡ Line x };
 
     fn from(line: PayLine) -> Value {
-        Value::Line(line)
+        Self::Line(line)
     }
 }
 

@@ -22,6 +22,7 @@ pub enum Noun {
 
 impl Noun {
     /// The numbers that are allowed, as a message has them.
+    // A second text of a noun, beside the one that it is shown by.
     fn range(self) -> &'static str {
         match self {
             Noun::Stride | Noun::Amount | Noun::Place | Noun::Start | Noun::Stop | Noun::Step => {

@@ -13,6 +13,7 @@ pub enum SliceFault {
 
 impl SliceFault {
     /// The number that stands for the fault.
+    // A match, so that each number stands beside its fault.
     pub fn number(&self) -> u8
         ensures { result ≡ slice_number self.now }
     {

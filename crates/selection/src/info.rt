@@ -7,6 +7,7 @@ use crate::slice::SliceInfoElem;
 mod stored;
 
 /// A stored selection: its elements are the first `len` of sixteen, and it keeps their two counts.
+// A fixed array, so that a selection copies without fail.
 #[derive(Clone, Copy)]
 pub struct SliceInfo {
     elems: [SliceInfoElem; 16],

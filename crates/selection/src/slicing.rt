@@ -27,6 +27,7 @@ fn first_fault<S: SliceArg, D: Dimension>(sel: &S, lens: &D) -> Option<SliceFaul
     requires { in_count (S.SliceArg.elems sel.now) ≡ length (D.Dimension.words lens.now) }
     ensures { found result ≡ first_fault 0 (S.SliceArg.elems sel.now) (D.Dimension.words lens.now) }
 {
+    // The axis goes on only where an element takes one.
     let mut axis = 0;
     for (place, elem) in sel.iter().enumerate() {
         if let Some(fault) = elem_fault(place, word_at(lens, axis), elem) {
@@ -56,6 +57,7 @@ pub fn check_counts<S: SliceArg, D: Dimension>(sel: &S, lens: &D) -> Result<(), 
 pub fn slice_fault<S: SliceArg, D: Dimension>(sel: &S, lens: &D) -> Option<SliceFault>
     ensures { found result ≡ slice_fault (S.SliceArg.elems sel.now) (D.Dimension.words lens.now) }
 {
+    // The answer is the fault itself, which `?` does not hand on.
     if let Err(fault) = check_counts(sel, lens) {
         return Some(fault);
     }

@@ -9,6 +9,7 @@ use script::{Expected, Filling, Kind, Value};
 use std::alloc::{AllocError, Global};
 
 /// The lent cells, all of one kind.
+// An enum, since only the run of a script tells which kind is lent.
 #[derive(Drop)]
 pub(crate) enum Lent {
     Cents(Vec<i64>),

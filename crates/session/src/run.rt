@@ -94,6 +94,7 @@ pub fn run_script(rt: &HostRuntime) -> io::Result<u64> {
     let mut script = Run::new(heap);
     let mut line = Vec::new(heap);
     let mut text = String::new(heap);
+    // Input may never end, and each loop is proved to end.
     for _ in 0..u64::MAX {
         line.clear();
         if input.read_until(b'\n', &mut line)? == 0 {

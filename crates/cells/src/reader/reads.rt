@@ -10,6 +10,7 @@ use crate::lent::check_lent;
 use grid::{GridCall, GridFault, Layout};
 
 /// The value at a tuple of a grid over these cells.
+// A function of the slice, since the methods of a reader lend on what they hold.
 fn read_at<T: Copy>(cells: &[T], layout: &Layout, index: &[usize]) -> Option<T>
     requires { length cells.now ≡ (seen layout.now).cells }
     ensures answer { result ≡ reading (seen layout.now) cells.now index.now }

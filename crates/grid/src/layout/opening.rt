@@ -74,6 +74,7 @@ fn too_few(cells: usize, far: usize, empty: bool) -> bool
 }
 
 /// The strides of an order.
+// An order is looked at once, and each arm calls another function.
 fn strides_in<D: Dimension>(dim: &D, order: Order) -> Result<D, RowFault>
     ensures { rowAnswered D.Dimension.words result ≡ strides_of (in_order order) (D.Dimension.words dim.now) }
 {

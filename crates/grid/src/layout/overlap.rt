@@ -52,6 +52,7 @@ impl<'a> Axes<'a> {
         if self.lens.contains(&0) {
             return false;
         }
+        // `any` over a range of numbers is left open by the check.
         for axis in 0..self.lens.len() {
             if self.is_crowded(axis) {
                 return true;

@@ -69,6 +69,7 @@ fn with_axis(cut: Cut, length: usize, stride: usize) -> Cut
 }
 
 /// A range keeps its entries of the next axis.
+// Each of these moves the axis on, so that it is at most 8 is known to the loop alone.
 fn cut_range(grid: &Layout, cut: Cut, place: usize, range: Slice) -> Result<Cut, SliceFault>
     requires { cut.axis ≤ 8 }
     ensures { Goes (seen grid.now) cut place (elem_of (SliceInfoElem.Slice range)) result }
@@ -140,6 +141,7 @@ impl Layout {
     {
         at_call(check_counts(sel, &self.lens), GridCall::Slice)?;
         let cut = at_call(cut_elems(self, sel), GridCall::Slice)?;
+        // Written out, since a struct with ghost fields is not made by `..`.
         Ok(Layout {
             cells: self.cells,
             start: cut.start,

@@ -32,6 +32,7 @@ pub(crate) trait Unsigned: TryFrom<u64, Error = TryFromIntError> {
     ghost narrows: { Narrows Self.try_from_gives number limit };
 }
 
+// One impl for each width, since no macro of a crate may write them.
 impl Unsigned for u8 {
     ghost limit = { 2 ^ 8 };
 
