@@ -3,13 +3,11 @@
 
 mod command;
 mod expected;
-mod list;
 mod parse;
 mod scan;
 mod selected;
 
 pub use command::{Change, Command, Filling, Kind, Marked, Opening, Ruling, Storing, Value};
 pub use expected::{Expected, Noun, What};
-pub use list::write_list;
 pub use parse::parse_line;
 pub use selected::{Selection, write_selection};

@@ -2,7 +2,6 @@ ghost use Rattle.std.specs.Prelude.{◌≡◌, refl};
 ghost use Rattle.laws.specs.Elements.{in_count, out_count};
 ghost use Rattle.selection.specs.Slices.{elems_of};
 
-use crate::list::write_values;
 use selection::{Lent, SliceArg, SliceInfoElem};
 use std::fmt;
 
@@ -58,5 +57,7 @@ pub fn write_selection<W: fmt::Write, S: SliceArg>(
     f: &mut fmt::Formatter<W>,
     sel: &S,
 ) -> fmt::Result {
-    write_values(f, sel.iter())
+    f.write_str("[")?;
+    f.write_joined(sel.iter(), ",")?;
+    f.write_str("]")
 }

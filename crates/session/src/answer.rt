@@ -1,7 +1,7 @@
 use crate::lent::Lent;
 use crate::report::Report;
 use grid::Layout;
-use script::{Value, write_list, write_selection};
+use script::{Value, write_selection};
 use selection::AxisRule;
 use std::fmt;
 
@@ -48,6 +48,16 @@ fn write_layout<W: fmt::Write>(
     write_list::<usize, _, _>(f, layout.lens().as_slice())?;
     f.write_str(" strides ")?;
     write_list::<Stride, _, _>(f, layout.strides().as_slice())
+}
+
+/// Items in brackets, with commas and no blanks, each as the value that shows it.
+fn write_list<D: fmt::Display + From<T> + Drop, T: Copy, W: fmt::Write>(
+    f: &mut fmt::Formatter<W>,
+    items: &[T],
+) -> fmt::Result {
+    f.write_str("[")?;
+    f.write_joined(items.iter().map(|item| D::from(*item)), ",")?;
+    f.write_str("]")
 }
 
 /// A stride's word, shown as the two's complement that it is.
