@@ -10,7 +10,7 @@ passes : (n : ℕ) → 2 ^ 64 ≤ n → fitted n ≡ None
 passes n h = cond-false _ _ _ (le-ltb n (2 ^ 64) h)
 
 -- what does not fit fits no better with one more digit
-extended-fitted : (n d : ℕ) → extended (fitted n) d ≡ fitted (n * 10 + d)
+pub extended-fitted : (n d : ℕ) → extended (fitted n) d ≡ fitted (n * 10 + d)
 extended-fitted n d =
     ⊎_elim
     (λ h. ap (λ o. extended o d) (fits n h))
