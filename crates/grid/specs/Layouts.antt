@@ -1,6 +1,6 @@
 -- A layout and the ways to open one, as the rules see them.
-use Rattle.std.specs.Prelude.{ℕ, not, List, length, ℤ, pos, Ok, Result, ◌==◌, nat_lt}
-use Rattle.laws.specs.Strides.{signed, row_major, column_major}
+use Rattle.std.specs.Prelude.{ℕ, not, List, [], ◌∷◌, length, ℤ, pos, Ok, Result, ◌==◌, nat_lt}
+use Rattle.laws.specs.Strides.{signed, onward, row_major, column_major}
 use Rattle.laws.specs.Space.{Seen}
 use Rattle.laws.specs.Lengths.{product, nonzeros}
 use Rattle.laws.specs.Faults.{Fault, in_rows, refuse}
@@ -15,6 +15,16 @@ use Rattle.grid.specs.declared.shape_builder.Strides.TheVariants.{C, F, Custom}
 -- the cell count, the start, and the words of the two rows
 abbrev pub seen : Layout → Seen
 seen l = record { cells = l.cells; start = pos l.start; lens = listed l.lens; strides = signed (listed l.strides) }
+
+-- the word so many strides on along one axis after another, counted in 64 bits, as far as both rows go
+abbrev pub onwards : ℕ → List ℕ → List ℕ → ℕ
+onwards from [] ws = from
+onwards from (i ∷ ix) [] = from
+onwards from (i ∷ ix) (w ∷ ws) = onwards (onward from i w) ix ws
+
+-- where a tuple's indices lead from the start by a layout's stride words
+abbrev pub counted_cell : Layout → List ℕ → ℕ
+counted_cell l ix = onwards l.start ix (listed l.strides)
 
 -- the strides of an order
 abbrev pub in_order : Order → List ℕ → List ℕ

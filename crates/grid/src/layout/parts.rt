@@ -5,7 +5,7 @@ ghost use Rattle.laws.specs.Tuples.{Within, is_within};
 ghost use Rattle.laws.specs.Space.{cell};
 ghost use Rattle.laws.specs.Filling.{cell_at};
 ghost use Rattle.dimension.specs.Rows.{listed};
-ghost use Rattle.grid.specs.Layouts.{seen};
+ghost use Rattle.grid.specs.Layouts.{seen, counted_cell};
 
 use super::Layout;
 use dimension::{IxDyn, stride_offset};
@@ -53,8 +53,9 @@ impl Layout {
         self.strides
     }
 
-    /// The cell of a tuple within the lengths; of any other, some number.
+    /// Where a tuple's indices lead from the start, counted in 64 bits; within the lengths, its cell.
     pub fn stride_offset(&self, index: &[usize]) -> usize
+        ensures answer { result ≡ counted_cell self.now index.now }
         ensures here { Within index.now (seen self.now).lens → cell (seen self.now) index.now ≡ pos result }
         ensures within { Within index.now (seen self.now).lens → result < (seen self.now).cells }
     {

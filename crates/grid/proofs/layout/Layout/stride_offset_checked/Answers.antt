@@ -1,4 +1,4 @@
-use Rattle.std.proofs.Common.{rules, ◌≡◌, true, sym}
+use Rattle.std.proofs.Common.{rules, ◌≡◌, true, pos, sym, ap, ◌∙◌, arith}
 use Rattle.laws.specs.Tuples.{is_within}
 use Rattle.laws.proofs.Tuples.{is_within_lem}
 use Rattle.laws.proofs.Filling.{cell_at_within}
@@ -12,4 +12,4 @@ returns c =
     let ix = c.args.index.now in
     let test : is_within ix (listed s.lens) ≡ true = search rules in
     let w = is_within_lem ix (listed s.lens) test in
-    sym (cell_at_within (seen s) ix c.stride_offset.result w (c.stride_offset.ensures.here w))
+    sym (cell_at_within (seen s) ix _ w (c.stride_offset.ensures.here w ∙ ap pos (omega arith)))
