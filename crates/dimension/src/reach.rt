@@ -12,7 +12,7 @@ ghost use Rattle.dimension.specs.Reach.{worded};
 use crate::dimension_trait::Dimension;
 use crate::dynindeximpl::IxDyn;
 use crate::error::RowFault;
-use crate::size::{MOST, size_of_shape_checked};
+use crate::size::{MOST, checked_size};
 
 /// The magnitude of a stride, which is kept as its word of two's complement.
 pub fn magnitude(word: usize) -> usize
@@ -60,9 +60,9 @@ pub fn max_abs_offset_check_overflow<D: Dimension, S: Dimension>(
     if dim.ndim() != strides.ndim() {
         return Err(RowFault::IncompatibleLayout);
     }
-    size_of_shape_checked(dim)?;
     let lens = IxDyn::copy_of(dim);
     let row = IxDyn::copy_of(strides);
+    checked_size(lens.as_slice())?;
     let far = checked_reach(lens.as_slice(), row.as_slice()).ok_or(RowFault::Overflow)?;
     let bytes = far.checked_mul(size).ok_or(RowFault::Overflow)?;
     if far > MOST || bytes > MOST {

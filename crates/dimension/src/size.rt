@@ -21,11 +21,18 @@ pub fn word_at<D: Dimension>(row: &D, place: usize) -> usize
     row.get(place).unwrap_or(0)
 }
 
+/// Whether some length is 0.
+fn has_zero(lens: &[usize]) -> bool
+    ensures { result ≡ some_zero lens.now }
+{
+    lens.contains(&0)
+}
+
 /// Whether some length is 0, so that a grid of these lengths has no cells.
 pub fn is_empty<D: Dimension>(dim: &D) -> bool
     ensures { result ≡ some_zero (D.Dimension.words dim.now) }
 {
-    IxDyn::copy_of(dim).as_slice().contains(&0)
+    has_zero(IxDyn::copy_of(dim).as_slice())
 }
 
 /// The product of the lengths, 1 in place of each 0, if it is a word.
@@ -46,25 +53,20 @@ pub fn lengths_within<D: Dimension>(dim: &D, limit: usize) -> bool
     nonzero_product(IxDyn::copy_of(dim).as_slice()).is_some_and(|whole| whole <= limit)
 }
 
-/// The product of the lengths, which fits since that of the nonzero ones does.
-fn size(lens: &[usize]) -> usize
-    requires { nonzeros lens.now ≤ 2 ^ 63 - 1 }
-    ensures { result ≡ product lens.now }
+/// The number of elements of lengths, whose nonzero ones have a product within 63 bits.
+pub(crate) fn checked_size(lens: &[usize]) -> Result<usize, RowFault>
+    ensures { answered (λ n. n) result ≡ sized lens.now }
 {
-    // `product` would want a proof that each of its runs fits.
-    let mut size = 1;
-    for length in lens {
-        size *= *length;
+    let whole = nonzero_product(lens).unwrap_or(usize::MAX);
+    if whole > MOST {
+        return Err(RowFault::Overflow);
     }
-    size
+    Ok(if has_zero(lens) { 0 } else { whole })
 }
 
 /// The number of elements of a shape, whose nonzero lengths have a product within 63 bits.
 pub fn size_of_shape_checked<D: Dimension>(dim: &D) -> Result<usize, RowFault>
     ensures { answered (λ n. n) result ≡ sized (D.Dimension.words dim.now) }
 {
-    if !lengths_within(dim, MOST) {
-        return Err(RowFault::Overflow);
-    }
-    Ok(size(IxDyn::copy_of(dim).as_slice()))
+    checked_size(IxDyn::copy_of(dim).as_slice())
 }
