@@ -37,6 +37,7 @@ pub fn default_strides<D: Dimension>(dim: &D) -> Result<D, RowFault>
 pub fn fortran_strides<D: Dimension>(dim: &D) -> Result<D, RowFault>
     ensures { answered D.Dimension.words result ≡ strides_of column_major (D.Dimension.words dim.now) }
 {
-    let Reverse(strides) = default_strides(&Reverse(*dim))?;
+    let size = size_of_shape_checked(dim)?;
+    let Reverse(strides) = row_major(&Reverse(*dim), size);
     Ok(strides)
 }
