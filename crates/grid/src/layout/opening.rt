@@ -1,11 +1,11 @@
 ghost use Rattle.std.specs.Prelude.{◌≡◌, not, [], ◌∷◌, length, pos, IfOk, if◌then◌else◌, Ok, ◌==◌, nat_le, nat_lt};
-ghost use Rattle.laws.specs.Lengths.{nonzeros};
+ghost use Rattle.laws.specs.Lengths.{product, nonzeros};
 ghost use Rattle.laws.specs.Strides.{signed};
 ghost use Rattle.laws.specs.Space.{Sound};
 ghost use Rattle.laws.specs.Faults.{in_rows, refuse};
 ghost use Rattle.laws.specs.Opening.{limit, some_above, fresh, ordered, strided, opening};
 ghost use Rattle.dimension.specs.Errors.{answered as rowAnswered};
-ghost use Rattle.dimension.specs.Rows.{strides_of};
+ghost use Rattle.dimension.specs.Rows.{listed, strides_of};
 ghost use Rattle.grid.specs.Errors.{answered, calling, cause_fault, told};
 ghost use Rattle.grid.specs.Layouts.{seen, given, in_order, shaped, reaching};
 
@@ -14,7 +14,7 @@ use super::overlap::Axes;
 use crate::error::{Cause, GridCall, GridFault, at_call};
 use crate::shape_builder::Strides;
 use dimension::{
-    Dim, Dimension, IxDyn, LIMIT, Order, RowFault, default_strides, fortran_strides, is_empty,
+    Dim, Dimension, IxDyn, LIMIT, Order, RowFault, default_strides, fortran_strides,
     lengths_within, max_abs_offset_check_overflow, size_of_shape_checked, strides_non_negative,
     strides_within,
 };
@@ -29,6 +29,19 @@ fn refused(cause: Cause) -> GridFault
     }
 }
 
+/// Whether the nonzero lengths of a shape of this size have a product within the limit.
+// A size that is not 0 is that product.
+fn is_small<D: Dimension>(dim: &D, size: usize) -> bool
+    requires { size ≡ product (D.Dimension.words dim.now) }
+    ensures { result ≡ nat_le (nonzeros (D.Dimension.words dim.now)) limit }
+{
+    if size == 0 {
+        lengths_within(dim, LIMIT)
+    } else {
+        size <= LIMIT
+    }
+}
+
 /// Makes the checks of an order that concern the rows alone, and answers the size.
 fn check_shape<D: Dimension>(cells: usize, dim: &D) -> Result<usize, RowFault>
     ensures { rowAnswered (λ n. n) result ≡ shaped cells (D.Dimension.words dim.now) }
@@ -37,7 +50,7 @@ fn check_shape<D: Dimension>(cells: usize, dim: &D) -> Result<usize, RowFault>
         return Err(RowFault::SizeLimit);
     }
     let size = size_of_shape_checked(dim)?;
-    if !lengths_within(dim, LIMIT) {
+    if !is_small(dim, size) {
         return Err(RowFault::SizeLimit);
     }
     Ok(size)
@@ -103,24 +116,22 @@ fn open_ordered<D: Dimension>(cells: usize, dim: &D, order: Order) -> Result<Lay
 }
 
 /// Makes the checks of a stride row, in their order.
-fn can_index_slice<D: Dimension, S: Dimension>(
+fn can_index_slice(
     cells: usize,
     size: usize,
-    dim: &D,
-    row: &S,
+    lens: &IxDyn,
+    strides: &IxDyn,
 ) -> Result<(), GridFault>
-    ensures { answered (λ _. fresh cells (D.Dimension.words dim.now) (signed (S.Dimension.words row.now))) result ≡ calling GridCall.Open (strided cells size (D.Dimension.words dim.now) (signed (S.Dimension.words row.now))) }
+    ensures { answered (λ _. fresh cells (listed lens.now) (signed (listed strides.now))) result ≡ calling GridCall.Open (strided cells size (listed lens.now) (signed (listed strides.now))) }
 {
-    let far = at_call(check_row(cells, size, dim, row), GridCall::Open)?;
-    if too_few(cells, far, is_empty(dim)) {
-        return Err(refused(Cause::OutOfBounds));
-    }
-    let lens = IxDyn::copy_of(dim);
-    let strides = IxDyn::copy_of(row);
+    let far = at_call(check_row(cells, size, lens, strides), GridCall::Open)?;
     let axes = Axes {
         lens: lens.as_slice(),
         strides: strides.as_slice(),
     };
+    if too_few(cells, far, axes.is_empty()) {
+        return Err(refused(Cause::OutOfBounds));
+    }
     if axes.overlap() {
         return Err(refused(Cause::Rows(RowFault::Unsupported)));
     }
@@ -136,12 +147,14 @@ fn open_strided<D: Dimension, S: Dimension>(
 ) -> Result<Layout, GridFault>
     ensures { answered seen result ≡ calling GridCall.Open (strided cells size (D.Dimension.words dim.now) (signed (S.Dimension.words row.now))) }
 {
-    can_index_slice(cells, size, dim, row)?;
+    let lens = IxDyn::copy_of(dim);
+    let strides = IxDyn::copy_of(row);
+    can_index_slice(cells, size, &lens, &strides)?;
     Ok(Layout {
         cells,
         start: 0,
-        lens: IxDyn::copy_of(dim),
-        strides: IxDyn::copy_of(row),
+        lens,
+        strides,
     })
 }
 

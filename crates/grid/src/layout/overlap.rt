@@ -1,4 +1,5 @@
 ghost use Rattle.std.specs.Prelude.{◌≡◌, ◌-◌, ◌*◌, ◌^◌, ◌≤◌, cond, length, if◌then◌else◌, nat_le};
+ghost use Rattle.laws.specs.Lengths.{some_zero};
 ghost use Rattle.laws.specs.Strides.{signed};
 ghost use Rattle.laws.specs.Opening.{span, span_others, crowded, overlaps};
 
@@ -45,11 +46,18 @@ impl<'a> Axes<'a> {
         length > 1 && step <= self.span_others(axis, step)
     }
 
+    /// Whether some length is 0, so that there are no tuples.
+    pub(super) fn is_empty(&self) -> bool
+        ensures { result ≡ some_zero self.now.lens.now }
+    {
+        self.lens.contains(&0)
+    }
+
     /// Whether two tuples may have one cell; a grid without cells has no tuples.
     pub(super) fn overlap(&self) -> bool
         ensures { result ≡ overlaps self.now.lens.now (signed self.now.strides.now) }
     {
-        if self.lens.contains(&0) {
+        if self.is_empty() {
             return false;
         }
         // `any` over a range of numbers is left open by the check.
