@@ -34,8 +34,16 @@ not_ltb : (m n : ℕ) → not (ltb m n) ≡ leb n m
 not_ltb m n = grind (arith, nat_tests)
 
 -- no magnitude is above m
-pub none_above : (m : ℕ) (ws : List ℕ) → not (some_above m (signed ws)) ≡ list_all (λ w. leb (nat_abs (to_z w64 w)) m) ws
+none_above : (m : ℕ) (ws : List ℕ) → not (some_above m (signed ws)) ≡ list_all (λ w. leb (nat_abs (to_z w64 w)) m) ws
 none_above m ws = no_word (λ z. ltb m (nat_abs z)) (λ w. leb (nat_abs (to_z w64 w)) m) (λ w. not_ltb m (nat_abs (to_z w64 w))) ws
+
+-- what a test of a row's words within m answers, m being the limit
+pub within_limit : {m limit : ℕ} {b : Bool} {rs ws : List ℕ} → b ≡ list_all (λ w. leb (nat_abs (to_z w64 w)) m) rs → rs ≡ ws → m ≡ limit → b ≡ not (some_above limit (signed ws))
+within_limit {m} {limit} {b} {rs} {ws} told row same =
+    told
+    ∙ ap (list_all (λ w. leb (nat_abs (to_z w64 w)) m)) row
+    ∙ ap (λ n. list_all (λ w. leb (nat_abs (to_z w64 w)) n) ws) same
+    ∙ sym (none_above limit ws)
 
 -- ---- the reach, axis by axis
 
