@@ -1,4 +1,4 @@
-use Rattle.std.proofs.Common.{◌≡◌, ap, ◌∙◌, arith}
+use Rattle.std.proofs.Common.{◌≡◌, arith}
 use Rattle.std.specs.List.{slice_get}
 use Rattle.selection.specs.Slices.{elem_of, meant}
 use Rattle.selection.specs.Walks.{elems_left}
@@ -10,7 +10,7 @@ returns-clause-steps g c =
     let h = c.in_ok-next.ensures.steps in
     let es = g.S.SliceArg.elems c.args.self.now.sel.now in
     let range = c.args.self.now.places in
-    let at : meant c.elem.result ≡ slice_get es range.start = c.elem.ensures ∙ ap (slice_get es) h.1.1 in
+    let at : meant c.elem.result ≡ slice_get es range.start = grind arith in
     rw (h.0, h.1.2) (first_left es range.start range.end c.elem.result (omega (arith, h.1.0)) at)
 
 pub returns-clause-goes : goal.returns-clause-goes
