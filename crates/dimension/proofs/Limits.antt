@@ -24,13 +24,6 @@ kept_small n w e h = elim (cases_lt n (2 ^ 64)) [
   | inr over ↦ absurd (omega (arith, h, rw (le-ltb n (2 ^ 64) over) at e))
 ]
 
--- and great where the number is great
-pub kept_great : (n w : ℕ) → w ≡ unwrap_or (worded n) 18446744073709551615 → 9223372036854775807 < w → 9223372036854775807 < n
-kept_great n w e h = elim (cases_lt n (2 ^ 64)) [
-  | inl under ↦ omega (arith, h, rw (lt-ltb n (2 ^ 64) under) at e)
-  | inr over ↦ omega (arith, over)
-]
-
 -- ---- the size of a shape
 
 pub no-zero-nonzeros : (ls : List ℕ) → some_zero ls ≡ false → nonzeros ls ≡ product ls
