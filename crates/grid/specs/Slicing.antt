@@ -22,7 +22,7 @@ pub record Under (s : Seen) (es : List Elem) (k : ℕ) (c : Cut) : Type 0 where
   pub paired : length (listed c.strides) ≡ length (listed c.lens)
 
 -- one element more, or the selection's first fault
-abbrev pub Goes : Seen → Cut → ℕ → Elem → Result Cut SliceFault → Type 0
-Goes s c k e r =
+abbrev pub Goes : Seen → Cut → ℕ → Elem → Result (Unit {0}) SliceFault → Cut → Type 0
+Goes s c k e r n =
     (es : List Elem) → Under s es k c → drop k es ≡ e ∷ drop (k + 1) es
-    → MatchResult r (λ n. Under s es (k + 1) n) (λ f. first_fault 0 es s.lens ≡ Some (slice_fault_of f))
+    → MatchResult r (λ _. Under s es (k + 1) n) (λ f. first_fault 0 es s.lens ≡ Some (slice_fault_of f))

@@ -50,68 +50,64 @@ fn cut_stride(stride: usize, count: usize, step: isize) -> usize
     (stride.cast_signed() * step).cast_unsigned()
 }
 
-/// The slice with one axis more.
-fn with_axis(cut: Cut, length: usize, stride: usize) -> Cut
-    ensures axis { result.axis ≡ cut.axis }
-    ensures start { result.start ≡ cut.start }
-    ensures lens { listed result.lens ≡ pushed (listed cut.lens) length }
-    ensures strides { listed result.strides ≡ pushed (listed cut.strides) stride }
+/// Adds an axis to the slice.
+fn add_axis(cut: &mut Cut, length: usize, stride: usize)
+    ensures axis { cut.new.axis ≡ cut.old.axis }
+    ensures start { cut.new.start ≡ cut.old.start }
+    ensures lens { listed cut.new.lens ≡ pushed (listed cut.old.lens) length }
+    ensures strides { listed cut.new.strides ≡ pushed (listed cut.old.strides) stride }
 {
-    let mut lens = cut.lens;
-    let mut strides = cut.strides;
-    let _ = lens.push(length);
-    let _ = strides.push(stride);
-    Cut {
-        lens,
-        strides,
-        ..cut
-    }
+    let _ = cut.lens.push(length);
+    let _ = cut.strides.push(stride);
 }
 
 /// A range keeps its entries of the next axis.
 // Each of these moves the axis on, so that it is at most 8 is known to the loop alone.
-fn cut_range(grid: &Layout, cut: Cut, place: usize, range: Slice) -> Result<Cut, SliceFault>
-    requires { cut.axis ≤ 8 }
-    ensures { Goes (seen grid.now) cut place (elem_of (SliceInfoElem.Slice range)) result }
+fn cut_range(grid: &Layout, cut: &mut Cut, place: usize, range: Slice) -> Result<(), SliceFault>
+    requires { cut.old.axis ≤ 8 }
+    ensures { Goes (seen grid.now) cut.old place (elem_of (SliceInfoElem.Slice range)) result cut.new }
 {
     let length = word_at(&grid.lens, cut.axis);
     let stride = word_at(&grid.strides, cut.axis);
     let span = resolve_slice(place, length, range)?;
     let count = span.entry_count();
     let moved = cut_start(cut.start, stride, span);
-    let rest = Cut {
-        axis: cut.axis + 1,
-        start: moved,
-        ..cut
-    };
-    Ok(with_axis(rest, count, cut_stride(stride, count, span.step)))
+    cut.axis += 1;
+    cut.start = moved;
+    add_axis(cut, count, cut_stride(stride, count, span.step));
+    Ok(())
 }
 
 /// An index keeps one place of the next axis, and drops the axis.
-fn cut_index(grid: &Layout, cut: Cut, place: usize, index: isize) -> Result<Cut, SliceFault>
-    requires { cut.axis ≤ 8 }
-    ensures { Goes (seen grid.now) cut place (Index index) result }
+fn cut_index(grid: &Layout, cut: &mut Cut, place: usize, index: isize) -> Result<(), SliceFault>
+    requires { cut.old.axis ≤ 8 }
+    ensures { Goes (seen grid.now) cut.old place (Index index) result cut.new }
 {
     let length = word_at(&grid.lens, cut.axis);
     let stride = word_at(&grid.strides, cut.axis);
     let at = resolve_index(place, length, index)?;
-    let start = stride_offset(cut.start, at, stride);
-    Ok(Cut {
-        axis: cut.axis + 1,
-        start,
-        ..cut
-    })
+    cut.axis += 1;
+    cut.start = stride_offset(cut.start, at, stride);
+    Ok(())
 }
 
-/// The slice after one element more; a new axis has length 1 and stride 0.
-fn cut_elem(grid: &Layout, cut: Cut, place: usize, elem: SliceInfoElem) -> Result<Cut, SliceFault>
-    requires { cut.axis ≤ 8 }
-    ensures { Goes (seen grid.now) cut place (elem_of elem) result }
+/// Takes the slice past one element more; a new axis has length 1 and stride 0.
+fn cut_elem(
+    grid: &Layout,
+    cut: &mut Cut,
+    place: usize,
+    elem: SliceInfoElem,
+) -> Result<(), SliceFault>
+    requires { cut.old.axis ≤ 8 }
+    ensures { Goes (seen grid.now) cut.old place (elem_of elem) result cut.new }
 {
     match elem {
         SliceInfoElem::Slice(range) => cut_range(grid, cut, place, range),
         SliceInfoElem::Index(index) => cut_index(grid, cut, place, index),
-        SliceInfoElem::NewAxis => Ok(with_axis(cut, 1, 0)),
+        SliceInfoElem::NewAxis => {
+            add_axis(cut, 1, 0);
+            Ok(())
+        }
     }
 }
 
@@ -129,7 +125,7 @@ fn cut_elems<S: SliceArg>(grid: &Layout, sel: &S) -> Result<Cut, SliceFault>
         strides: row,
     };
     for (place, elem) in sel.iter().enumerate() {
-        cut = cut_elem(grid, cut, place, elem)?;
+        cut_elem(grid, &mut cut, place, elem)?;
     }
     Ok(cut)
 }

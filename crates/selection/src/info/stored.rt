@@ -7,7 +7,15 @@ use super::SliceInfo;
 use crate::arg::SliceArg;
 use crate::error::SliceFault;
 use crate::lent::Lent;
-use crate::slice::SliceInfoElem;
+use crate::slice::{Slice, SliceInfoElem};
+
+/// What the places past the elements hold, which nothing reads.
+// All its bytes are 0, so sixteen of them are made by clearing memory.
+const UNUSED: SliceInfoElem = SliceInfoElem::Slice(Slice {
+    start: 0,
+    end: None,
+    step: 0,
+});
 
 /// Whether a count is not the expected one, where one is expected.
 fn is_unexpected(expected: Option<usize>, count: usize) -> bool
@@ -28,12 +36,13 @@ impl SliceInfo {
         if list.len() > 16 {
             return Err(SliceFault::RankLimit);
         }
+        // Behind the loops of the counts it would be cleared for a list that is too long, too.
+        let mut elems = [UNUSED; 16];
         let in_ndim = Lent(list).in_ndim();
         let out_ndim = Lent(list).out_ndim();
         if is_unexpected(in_dim, in_ndim) || is_unexpected(out_dim, out_ndim) {
             return Err(SliceFault::IncompatibleShape);
         }
-        let mut elems = [SliceInfoElem::NewAxis; 16];
         elems[..list.len()].copy_from_slice(list);
         Ok(SliceInfo {
             elems,

@@ -11,12 +11,12 @@ returns-in_err-at c = λ es u split.
     let fits : SFits w64 c.args.index = c.ranges.index in
     let told = simp to_z-of_z at c.in_err-at.ensures.answer in
     rw (p.1, p.2)
-    (index-refused c.args.grid.now es c.args.place c.args.cut u c.word_at-length.result c.word_at-stride.result c.word_at-length.ensures c.word_at-stride.ensures c.args.index split
+    (index-refused c.args.grid.now es c.args.place c.args.cut.now u c.word_at-length.result c.word_at-stride.result c.word_at-length.ensures c.word_at-stride.ensures c.args.index split
     (slice_fault_of c.in_err-at.field-0.0) told)
 
 pub returns : goal.returns
 returns c = λ es u split.
     let fits : SFits w64 c.args.index = c.ranges.index in
     let told = simp to_z-of_z at c.in_ok-at.ensures.answer in
-    under_index c.args.grid.now es c.args.place c.args.cut u c.word_at-length.result c.word_at-stride.result c.word_at-length.ensures c.word_at-stride.ensures c.args.index split
-    c.in_ok-at.at told _ refl c.stride_offset-start.ensures.law refl refl
+    under_index c.args.grid.now es c.args.place c.args.cut.now u c.word_at-length.result c.word_at-stride.result c.word_at-length.ensures c.word_at-stride.ensures c.args.index split
+    c.in_ok-at.at told _ refl c.stride_offset-cut.ensures.law refl refl
