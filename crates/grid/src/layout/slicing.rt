@@ -20,7 +20,7 @@ use selection::{
 };
 
 /// A slice under way: the axis that comes next, the start, and the axes so far.
-#[derive(Clone, Copy)]
+#[derive(Drop)]
 struct Cut {
     axis: usize,
     start: usize,
@@ -51,7 +51,7 @@ fn cut_stride(stride: usize, count: usize, step: isize) -> usize
 }
 
 /// Adds an axis to the slice.
-fn add_axis(cut: &mut Cut, length: usize, stride: usize)
+fn push_axis(cut: &mut Cut, length: usize, stride: usize)
     ensures axis { cut.new.axis ≡ cut.old.axis }
     ensures start { cut.new.start ≡ cut.old.start }
     ensures lens { listed cut.new.lens ≡ pushed (listed cut.old.lens) length }
@@ -74,7 +74,7 @@ fn cut_range(grid: &Layout, cut: &mut Cut, place: usize, range: Slice) -> Result
     let moved = cut_start(cut.start, stride, span);
     cut.axis += 1;
     cut.start = moved;
-    add_axis(cut, count, cut_stride(stride, count, span.step));
+    push_axis(cut, count, cut_stride(stride, count, span.step));
     Ok(())
 }
 
@@ -105,7 +105,7 @@ fn cut_elem(
         SliceInfoElem::Slice(range) => cut_range(grid, cut, place, range),
         SliceInfoElem::Index(index) => cut_index(grid, cut, place, index),
         SliceInfoElem::NewAxis => {
-            add_axis(cut, 1, 0);
+            push_axis(cut, 1, 0);
             Ok(())
         }
     }

@@ -36,7 +36,7 @@ impl SliceInfo {
         if list.len() > 16 {
             return Err(SliceFault::RankLimit);
         }
-        // Behind the loops of the counts it would be cleared for a list that is too long, too.
+        // Between the length and the counts, so that a list that is too long clears nothing.
         let mut elems = [UNUSED; 16];
         let in_ndim = Lent(list).in_ndim();
         let out_ndim = Lent(list).out_ndim();

@@ -28,4 +28,4 @@ returns c = λ es u split.
     let count = rw step at c.entry_count-count.ensures in
     let stride : to_z w64 c.cut_stride.result ≡ (cond (leb c.entry_count-count.result 1) (pos 0) (to_z w64 c.word_at-stride.result *ℤ c.args.range.step)) = search (rules, step) in
     under_range c.args.grid.now es c.args.place c.args.cut.now u c.word_at-length.result c.word_at-stride.result c.word_at-length.ensures c.word_at-stride.ensures c.args.range.start c.args.range.end c.args.range.step split
-    c.in_ok-span.span.from c.in_ok-span.span.to c.in_ok-span.ensures.answer c.add_axis.new.cut c.entry_count-count.result c.cut_stride.result c.add_axis.ensures.axis (λ t. ap pos c.add_axis.ensures.start ∙ moved t) count stride c.add_axis.ensures.lens c.add_axis.ensures.strides
+    c.in_ok-span.span.from c.in_ok-span.span.to c.in_ok-span.ensures.answer c.push_axis.new.cut c.entry_count-count.result c.cut_stride.result c.push_axis.ensures.axis (λ t. ap pos c.push_axis.ensures.start ∙ moved t) count stride c.push_axis.ensures.lens c.push_axis.ensures.strides
